@@ -1,0 +1,5 @@
+pub mod Walks
+pub mod Edits
+pub mod Runs
+pub mod Points
+mod Rows
