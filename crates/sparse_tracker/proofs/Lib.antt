@@ -1,0 +1,10 @@
+mod Rows
+pub mod Ties
+pub mod Finds
+pub mod Fresh
+pub mod Moves
+pub mod Looks
+pub mod Stores
+pub mod Lessons
+pub mod Weighs
+pub mod Spots

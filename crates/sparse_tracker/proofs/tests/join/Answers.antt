@@ -1,0 +1,10 @@
+use Rattle.std.proofs.Common.{◌≡◌, ◌∙◌, ap, arith}
+use Rattle.region_ranges.specs.declared.ranges.ByteRange.{ByteRange}
+use Rattle.sparse_tracker.specs.Letters.{TrackerView, wait_if_pending}
+use Rattle.sparse_tracker.proofs.tests.join.Goals as goal
+
+pub wait_if_pending-requires : goal.wait_if_pending-requires
+wait_if_pending-requires c = rw c.requires (omega arith, omega arith)
+
+pub returns : goal.returns
+returns c = ap (λ (v : TrackerView). v.tracker) c.in_ok-ticket.ensures.ok ∙ ap (wait_if_pending (record { start = 0; end = 4 })) c.requires

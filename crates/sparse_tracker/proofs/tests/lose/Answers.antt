@@ -1,0 +1,12 @@
+use Rattle.std.proofs.Common.{◌≡◌, ◌∙◌, ap, refl}
+use Rattle.sparse_tracker.specs.Letters.{TrackerView, fail}
+use Rattle.sparse_tracker.proofs.tests.lose.Goals as goal
+
+pub fail-requires : goal.fail-requires
+fail-requires c = rw c.requires refl
+
+pub status-requires : goal.status-requires
+status-requires c = rw (c.fail.ensures, c.requires) refl
+
+pub returns : goal.returns
+returns c = ap (λ (v : TrackerView). v.tracker) c.fail.ensures ∙ ap (fail 0) c.requires

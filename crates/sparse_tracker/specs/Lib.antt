@@ -1,0 +1,5 @@
+pub mod Letters
+pub mod Kept
+pub mod Weights
+pub mod Places
+pub mod Example
