@@ -1,0 +1,34 @@
+use Rattle.std.proofs.Common.{arith, ◌≡◌, ◌<◌, ◌≤◌, ◌+◌, ◌∙◌, sym, ap, ℕ, zero, suc, Bool, true, false, List, [], ◌∷◌, ◌++◌, length, take, drop, refl, Option, Some, None, add-one}
+use Rattle.std.specs.Prelude.{slice_get, slice_set, IsSome, cond}
+use Rattle.std.proofs.lemmas.List.{length-set}
+use Rattle.freq_lists.specs.Lists.{ListsView, unlink, times, times_in, list_at, without}
+use Rattle.cache_policy.specs.Policy.{PolicyView, tag_at, is_tag}
+use Rattle.cache_policy.specs.Kept.{IsGood}
+use Rattle.cache_policy.specs.Fields.{view_of, IsKept}
+use Rattle.cache_policy.specs.Ageing.{lower}
+use Rattle.cache_policy.specs.Policy.{rise}
+use Rattle.cache_policy.specs.Steps.{goes_down, count_from}
+use Rattle.cache_policy.proofs.Good.{good_lower}
+use Rattle.cache_policy.proofs.Places.{length_lower}
+use Rattle.cache_policy.proofs.policy.Policy.decay.Goals as goal
+
+pub invariant_of-self : goal.invariant_of-self
+invariant_of-self c =
+    let f = c.self.inside in
+    let goes : ℕ → Bool = goes_down f.stamps.items f.min_delta c.args.now in
+    let lists : c.lower_all-self-inside.new.lists ≡ record f.lists { lists = lower goes f.lists.lists } = rw c.deref.ensures.value at c.lower_all-self-inside.ensures.lists in
+    record {
+      good = rw lists (good_lower (view_of f) c.self.invariant.good goes c.lower_all-self-inside.result);
+      nodes = rw lists c.self.invariant.nodes;
+      count = rw (lists, length_lower goes f.lists.lists) c.self.invariant.count;
+      free = c.self.invariant.free;
+      leaving = c.self.invariant.leaving;
+    }
+
+pub returns-clause-policy : goal.returns-clause-policy
+returns-clause-policy c =
+    let f = c.self.inside in
+    let goes : ℕ → Bool = goes_down f.stamps.items f.min_delta c.args.now in
+    let lists : c.lower_all-self-inside.new.lists ≡ record f.lists { lists = lower goes f.lists.lists } = rw c.deref.ensures.value at c.lower_all-self-inside.ensures.lists in
+    let counter : c.lower_all-self-inside.result ≡ rise f.demotions (count_from goes 0 f.lists.lists) = rw c.deref.ensures.value at c.lower_all-self-inside.ensures.counter in
+    rw (← c.self.view_is, lists, counter) refl

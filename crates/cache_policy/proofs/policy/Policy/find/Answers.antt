@@ -1,0 +1,25 @@
+use Rattle.std.proofs.Common.{arith, ◌≡◌, ◌<◌, ◌≤◌, ◌+◌, ◌∙◌, sym, ap, ℕ, zero, suc, Bool, true, false, List, [], ◌∷◌, ◌++◌, length, take, drop, refl, Option, Some, None, add-one}
+use Rattle.std.specs.Prelude.{slice_get, slice_set, IsSome, cond}
+use Rattle.std.proofs.lemmas.List.{length-set}
+use Rattle.freq_lists.specs.Lists.{ListsView, unlink, times, times_in, list_at, without}
+use Rattle.cache_policy.specs.Policy.{PolicyView, tag_at, is_tag}
+use Rattle.cache_policy.specs.Kept.{IsGood}
+use Rattle.cache_policy.specs.Fields.{view_of, IsKept}
+use Rattle.std.specs.List.{position_from}
+use Rattle.region_ranges.specs.Keys.{tag_of}
+use Rattle.cache_policy.proofs.Tags.{find_some, find_none}
+use Rattle.cache_policy.proofs.policy.Policy.find.Goals as goal
+
+pub returns-clause-some : goal.returns-clause-some
+returns-clause-some c =
+    let f = c.self.inside in
+    let tag = tag_of c.args.key.now in
+    let is : c.region_with.result ≡ position_from (is_tag tag) 0 f.tags.items = c.region_with.ensures ∙ rw (c.pack.ensures.value, c.deref.ensures.value) refl in
+    rw (← c.self.view_is) (find_some tag f.tags.items c.region_with.result is)
+
+pub returns-clause-none : goal.returns-clause-none
+returns-clause-none c =
+    let f = c.self.inside in
+    let tag = tag_of c.args.key.now in
+    let is : c.region_with.result ≡ position_from (is_tag tag) 0 f.tags.items = c.region_with.ensures ∙ rw (c.pack.ensures.value, c.deref.ensures.value) refl in
+    rw (← c.self.view_is) (find_none tag f.tags.items c.region_with.result is)

@@ -1,0 +1,45 @@
+use Rattle.std.proofs.Common.{arith, ◌≡◌, ◌<◌, ◌≤◌, ◌+◌, ◌∙◌, sym, ap, ℕ, zero, suc, Bool, true, false, List, [], ◌∷◌, ◌++◌, length, take, drop, refl, Option, Some, None, add-one}
+use Rattle.std.specs.Prelude.{slice_get, slice_set, IsSome, cond}
+use Rattle.std.proofs.lemmas.List.{length-set}
+use Rattle.freq_lists.specs.Lists.{ListsView, unlink, times, times_in, list_at, without}
+use Rattle.cache_policy.specs.Policy.{PolicyView, tag_at, is_tag}
+use Rattle.cache_policy.specs.Kept.{IsGood}
+use Rattle.cache_policy.specs.Fields.{view_of, IsKept}
+use Rattle.region_ranges.specs.Keys.{tag_of}
+use Rattle.cache_policy.proofs.Good.{front_region, good_map}
+use Rattle.cache_policy.proofs.Tags.{set_at}
+use Rattle.cache_policy.proofs.policy.Policy.map.Goals as goal
+
+pub push_back-requires-clause-node : goal.push_back-requires-clause-node
+push_back-requires-clause-node c =
+    let front = rw (← c.self.view_is) at c.requires.front in
+    omega (arith, front_region (view_of c.self.inside) c.self.invariant.good c.args.region (tag_of c.args.key) front, c.self.invariant.nodes)
+
+pub index_mut-requires : goal.index_mut-requires
+index_mut-requires c =
+    let front = rw (← c.self.view_is) at c.requires.front in
+    omega (arith, front_region (view_of c.self.inside) c.self.invariant.good c.args.region (tag_of c.args.key) front, c.self.inside.tags.ok.0)
+
+pub index_mut-requires-2 : goal.index_mut-requires-2
+index_mut-requires-2 c =
+    let front = rw (← c.self.view_is) at c.requires.front in
+    omega (arith, front_region (view_of c.self.inside) c.self.invariant.good c.args.region (tag_of c.args.key) front, c.self.invariant.good.stamps, c.self.inside.stamps.ok.0)
+
+pub invariant_of-self : goal.invariant_of-self
+invariant_of-self c =
+    let f = c.self.inside in
+    let front = rw (← c.self.view_is) at c.requires.front in
+    let new = rw (← c.self.view_is) at c.requires.new in
+    record {
+      good = rw (c.remove.ensures.by_index.2, c.push_back.ensures.lists, c.pack.ensures.value) (good_map (view_of f) c.self.invariant.good c.args.region (tag_of c.args.key) front c.args.now new);
+      nodes = rw (c.push_back.ensures.lists, length-set f.tags.items c.args.region (Some c.pack.result)) c.self.invariant.nodes;
+      count = c.push_back.ensures.count ∙ c.self.invariant.count;
+      free = rw (length-set f.tags.items c.args.region (Some c.pack.result)) (omega (arith, c.remove.ensures.capacity, c.self.invariant.free));
+      leaving = rw (length-set f.tags.items c.args.region (Some c.pack.result)) c.self.invariant.leaving;
+    }
+
+pub returns-clause-tags : goal.returns-clause-tags
+returns-clause-tags c j =
+    let f = c.self.inside in
+    let front = rw (← c.self.view_is) at c.requires.front in
+    rw (← c.self.view_is, c.pack.ensures.value) (set_at f.tags.items c.args.region j (Some (tag_of c.args.key)) (front_region (view_of f) c.self.invariant.good c.args.region (tag_of c.args.key) front))

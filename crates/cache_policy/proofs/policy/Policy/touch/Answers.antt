@@ -1,0 +1,27 @@
+use Rattle.std.proofs.Common.{arith, ◌≡◌, ◌<◌, ◌≤◌, ◌+◌, ◌∙◌, sym, ap, ℕ, zero, suc, Bool, true, false, List, [], ◌∷◌, ◌++◌, length, take, drop, refl, Option, Some, None, add-one}
+use Rattle.std.specs.Prelude.{slice_get, slice_set, IsSome, cond}
+use Rattle.std.proofs.lemmas.List.{length-set}
+use Rattle.freq_lists.specs.Lists.{ListsView, unlink, times, times_in, list_at, without}
+use Rattle.cache_policy.specs.Policy.{PolicyView, tag_at, is_tag}
+use Rattle.cache_policy.specs.Kept.{IsGood}
+use Rattle.cache_policy.specs.Fields.{view_of, IsKept}
+use Rattle.cache_policy.proofs.Lowers.{times_unlink}
+use Rattle.cache_policy.proofs.Good.{region_is, good_raise}
+use Rattle.cache_policy.proofs.policy.Policy.touch.Goals as goal
+
+pub push_back-requires-clause-free : goal.push_back-requires-clause-free
+push_back-requires-clause-free c = rw c.unlink.ensures.lists (times_unlink c.args.region c.self.inside.lists.lists)
+
+pub invariant_of-self : goal.invariant_of-self
+invariant_of-self c =
+    let f = c.self.inside in
+    let is = rw (← c.self.view_is) at c.requires in
+    let k = c.in-Some.frequency + 1 in
+    let below : k < length f.lists.lists = omega arith in
+    record {
+      good = rw (c.push_back.ensures.lists, c.unlink.ensures.lists) (good_raise (view_of f) c.self.invariant.good c.args.region is k c.args.now c.saturating_add-self-inside.result below);
+      nodes = rw (c.push_back.ensures.lists, c.unlink.ensures.lists) c.self.invariant.nodes;
+      count = c.push_back.ensures.count ∙ c.unlink.ensures.count ∙ c.self.invariant.count;
+      free = c.self.invariant.free;
+      leaving = c.self.invariant.leaving;
+    }

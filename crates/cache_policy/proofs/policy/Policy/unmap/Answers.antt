@@ -1,0 +1,36 @@
+use Rattle.std.proofs.Common.{arith, ◌≡◌, ◌<◌, ◌≤◌, ◌+◌, ◌∙◌, sym, ap, ℕ, zero, suc, Bool, true, false, List, [], ◌∷◌, ◌++◌, length, take, drop, refl, Option, Some, None, add-one}
+use Rattle.std.specs.Prelude.{slice_get, slice_set, IsSome, cond}
+use Rattle.std.proofs.lemmas.List.{length-set}
+use Rattle.freq_lists.specs.Lists.{ListsView, unlink, times, times_in, list_at, without}
+use Rattle.cache_policy.specs.Policy.{PolicyView, tag_at, is_tag}
+use Rattle.cache_policy.specs.Kept.{IsGood}
+use Rattle.cache_policy.specs.Fields.{view_of, IsKept}
+use Rattle.cache_policy.proofs.Good.{region_is, room_free, good_unmap}
+use Rattle.cache_policy.proofs.Tags.{set_at}
+use Rattle.cache_policy.proofs.policy.Policy.unmap.Goals as goal
+
+pub unreachable-requires : goal.unreachable-requires
+unreachable-requires c =
+    let f = c.self.inside in
+    let is = rw (← c.self.view_is) at c.requires in
+    let room = room_free (view_of f) c.self.invariant.good c.args.region is in
+    let ok = rw c.in_default.is at (c.push.ensures.succeeds (omega (arith, room, c.self.invariant.free, f.free.ok.0))) in
+    cc
+
+pub invariant_of-self : goal.invariant_of-self
+invariant_of-self c =
+    let f = c.self.inside in
+    let is = rw (← c.self.view_is) at c.requires in
+    record {
+      good = rw (c.in-Ok.ensures.items, c.unlink.ensures.lists) (good_unmap (view_of f) c.self.invariant.good c.args.region is c.saturating_add-self-inside.result);
+      nodes = rw (c.unlink.ensures.lists, length-set f.tags.items c.args.region None) c.self.invariant.nodes;
+      count = c.unlink.ensures.count ∙ c.self.invariant.count;
+      free = rw (length-set f.tags.items c.args.region None) (omega (arith, c.in-Ok.ensures.capacity, c.self.invariant.free));
+      leaving = rw (length-set f.tags.items c.args.region None) c.self.invariant.leaving;
+    }
+
+pub returns-clause-tags : goal.returns-clause-tags
+returns-clause-tags c j =
+    let f = c.self.inside in
+    let is = rw (← c.self.view_is) at c.requires in
+    rw (← c.self.view_is) (set_at f.tags.items c.args.region j None (region_is (view_of f) c.self.invariant.good c.args.region is))

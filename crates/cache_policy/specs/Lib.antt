@@ -1,0 +1,5 @@
+pub mod Policy
+pub mod Ageing
+pub mod Kept
+pub mod Steps
+pub mod Fields

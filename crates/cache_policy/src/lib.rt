@@ -1,0 +1,15 @@
+// Which region of the shared cache is given to which key, and which region is taken back next: the free list, the frequency
+// lists and the leaving list.
+#![tactic(auto)]
+
+mod index;
+mod lower;
+mod order;
+mod policy;
+mod tally;
+#[cfg(test)]
+mod tests;
+
+pub use policy::Policy;
+pub use region_ranges::Config;
+pub use tally::Tally4;

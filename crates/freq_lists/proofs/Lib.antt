@@ -1,0 +1,5 @@
+pub mod Counts
+pub mod Placed
+pub mod Room
+pub mod Seen
+mod Rows
