@@ -1,0 +1,5 @@
+pub mod Lists
+pub mod BitLemmas
+pub mod LayoutLemmas
+pub mod PlaceLemmas
+pub mod CountLemmas

@@ -1,0 +1,13 @@
+// Sets of documents, as one bit a document, and counts of how many sets hold each document.
+#![tactic(auto)]
+
+mod bits;
+mod places;
+mod tally;
+#[cfg(test)]
+mod tests;
+mod words;
+
+pub use bits::DocBits;
+pub use places::Places;
+pub use tally::Tally;
