@@ -1,0 +1,5 @@
+pub mod Causes
+pub mod Reads
+pub mod Windows
+pub mod Memory
+pub mod Going

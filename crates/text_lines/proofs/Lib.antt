@@ -1,0 +1,3 @@
+pub mod Undone
+pub mod Cuts
+pub mod Ahead

@@ -1,0 +1,14 @@
+use Rattle.std.proofs.Common.{sym, ap, List, ℕ, ◌+◌}
+use Rattle.directory_input.specs.Windows.{Window, moved_to}
+use Rattle.text_lines.specs.Readers.{Reading}
+use Rattle.text_lines.proofs.Ahead.{skipped}
+use Rattle.text_lines.proofs.reader.LineReader.skip.Goals as goal
+
+abbrev stands : Window → List ℕ → Reading
+stands input ahead = record { input = input; ahead = ahead }
+
+pub returns : goal.returns
+returns c =
+    let r = c.self.inside in
+    let le = rw (sym c.self.view_is) at c.requires in
+    rw (sym c.self.view_is) (ap (stands (moved_to (r.place + c.args.count) r.input)) (skipped r.from r.till c.args.count r.buffer.items le))

@@ -1,0 +1,4 @@
+pub mod Escapes
+pub mod Lines
+pub mod Walks
+pub mod Readers

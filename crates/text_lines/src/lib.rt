@@ -1,0 +1,12 @@
+// The lines of a text file, after Lucene SimpleText: a newline ends a line, and a backslash takes the next byte as
+// it is.
+#![tactic(auto)]
+
+mod escapes;
+mod reader;
+mod steps;
+#[cfg(test)]
+mod tests;
+
+pub use escapes::{escape, escape_is_undone, unescape};
+pub use reader::{Line, LineError, LineReader};
