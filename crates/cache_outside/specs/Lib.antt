@@ -1,0 +1,6 @@
+pub mod Causes
+pub mod Listing
+pub mod Nothing
+pub mod Sinks
+pub mod MemSinks
+pub mod MemSources
