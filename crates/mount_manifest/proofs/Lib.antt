@@ -1,0 +1,8 @@
+mod Json
+mod Digits
+mod Steps
+mod Sound
+mod Doubles
+mod Placed
+mod Whole
+mod Rows

@@ -1,0 +1,6 @@
+pub mod Steps
+pub mod Json
+pub mod Parts
+pub mod Manifest
+pub mod Sound
+pub mod Words

@@ -1,0 +1,17 @@
+// The manifest of a mounted index: the files of its segments, the blobs that hold each file's bytes, and the segments.
+#![tactic(auto)]
+
+mod error;
+mod form;
+mod limits;
+mod manifest;
+mod member;
+mod names;
+mod record;
+#[cfg(test)]
+mod tests;
+
+pub use byte_text::{Blobs, Name, Text};
+pub use error::{Field, ManifestError};
+pub use manifest::Manifest;
+pub use record::{FileId, FileRecord, Segment};

@@ -1,0 +1,87 @@
+use super::*;
+use std::alloc::Global;
+
+const MOUNT_X: &str =
+    "{\"version\":1,\"files\":[{\"name\":\"__a\",\"physical_name\":\"_0.pst\",\"length\":172,\"part_size\":100}],\"segments\":[{\"name\":\"_0\",\"docs\":3,\"postings\":\"_0.pst\"}]}";
+
+const MOUNT_Y: &str =
+    "{\"version\":1,\"files\":[{\"name\":\"__b\",\"physical_name\":\"big.bin\",\"length\":10000}],\"segments\":[]}";
+
+#[test]
+fn reads_mount_x(rt: HostRuntime) -> Result<(), ManifestError> {
+    let alloc = rt.alloc();
+    let manifest = Manifest::read(alloc, MOUNT_X.as_bytes())?;
+    assert_eq!(rt; manifest.files_len(), 1);
+    assert_eq!(rt; manifest.segments_len(), 1);
+    assert_eq!(rt; manifest.docs_total(), 3);
+    let file = manifest.file(0);
+    assert_eq!(rt; file.physical_name.as_str(), "_0.pst");
+    assert_eq!(rt; file.parts(), 2);
+    assert_eq!(rt; file.part_len(1), 72);
+    assert_eq!(rt; file.part_name(alloc, 1)?.as_str(), "__a.part1");
+    let segment = manifest.segment(0);
+    assert_eq!(rt; segment.docs, 3);
+    assert_eq!(rt; segment.postings, 0);
+    assert_eq!(rt; segment.live, None);
+    Ok(())
+}
+
+#[test]
+fn finds_by_name(rt: HostRuntime) -> Result<(), ManifestError> {
+    let alloc = rt.alloc();
+    let manifest = Manifest::read(alloc, MOUNT_X.as_bytes())?;
+    for (text, file, segment) in [("_0.pst", Some(0), None), ("_0", None, Some(0))] {
+        let name = Name::read(alloc, text.as_bytes())?;
+        assert!(rt; name.is_some());
+        if let Some(name) = name {
+            assert_eq!(rt; manifest.find_file(&name), file);
+            assert_eq!(rt; manifest.find_segment(&name), segment);
+        }
+    }
+    Ok(())
+}
+
+#[test]
+fn one_part_has_the_file_name(rt: HostRuntime) -> Result<(), ManifestError> {
+    let alloc = rt.alloc();
+    let manifest = Manifest::read(alloc, MOUNT_Y.as_bytes())?;
+    assert_eq!(rt; manifest.files_len(), 1);
+    let file = manifest.file(0);
+    assert_eq!(rt; file.parts(), 1);
+    assert_eq!(rt; file.part_name(alloc, 0)?.as_str(), "__b");
+    Ok(())
+}
+
+#[test]
+fn refuses(rt: HostRuntime) -> Result<(), ManifestError> {
+    let alloc = rt.alloc();
+    for (text, wanted) in [
+        ("{", "NotJson"),
+        (
+            "{\"version\":1,\"files\":[{\"name\":\"__a\",\"physical_name\":\"f\"}],\"segments\":[]}",
+            "Shape { field: Length }",
+        ),
+        (
+            "{\"version\":1,\"files\":[{\"name\":\"__a\",\"physical_name\":\"f\",\"length\":1099511623681}],\"segments\":[]}",
+            "Limit { field: Length, value: 1099511623681 }",
+        ),
+        (
+            "{\"version\":1,\"files\":[{\"name\":\"__a\",\"physical_name\":\"f\",\"length\":1},{\"name\":\"__b\",\"physical_name\":\"f\",\"length\":1}],\"segments\":[]}",
+            "Double { name: \"f\" }",
+        ),
+        (
+            "{\"version\":1,\"files\":[],\"segments\":[{\"name\":\"s\",\"docs\":1,\"postings\":\"g\"}]}",
+            "NoFile { name: \"g\" }",
+        ),
+    ] {
+        assert_eq!(rt; refusal(alloc, text)?.as_str(), wanted);
+    }
+    Ok(())
+}
+
+fn refusal(alloc: Global, text: &str) -> Result<String, ManifestError> {
+    match Manifest::read(alloc, text.as_bytes()) {
+        Ok(_) => Ok(String::from_str(alloc, "read")?),
+        Err(e) => Ok(format!(in alloc; "{e:?}")?),
+    }
+}
