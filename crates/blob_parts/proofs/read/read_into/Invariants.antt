@@ -1,0 +1,16 @@
+use Rattle.std.proofs.Common.{◌≡◌, ◌≤◌, ◌-◌, length, take}
+use Rattle.std.specs.Prelude.{IsTrue}
+use Rattle.blob_parts.specs.Content.{content, content_places, slice_of}
+use Rattle.blob_parts.specs.Takes.{Took}
+use Rattle.blob_parts.proofs.read.read_into.Given as goal
+
+abbrev pub invariant-loop-done : goal.invariant-loop-done
+invariant-loop-done g l =
+    (l.done ≤ length l.out)
+    × (g.S.BlobSource.faults l.fn.source ≤ g.S.BlobSource.faults l.source)
+    × (g.S.BlobSource.which l.source ≡ g.S.BlobSource.which l.fn.source)
+    × (IsTrue g.A.Archive.tells → take l.done l.out ≡ slice_of (content g.A.Archive.blobs l.table.number l.file) l.at l.done)
+    × (IsTrue g.A.Archive.tells → Took (g.S.BlobSource.taken l.fn.source) (g.S.BlobSource.taken l.source) (slice_of (content_places g.A.Archive.blobs l.table.number l.file) l.at l.done))
+
+abbrev pub decreases-loop-done : goal.decreases-loop-done
+decreases-loop-done g l = length l.out - l.done
