@@ -1,0 +1,46 @@
+-- What a run of the program may write, and its statuses.
+use Rattle.std.specs.Prelude.{ℕ, ◌≡◌, ◌⊎◌, ◌==◌, ◌||◌, ◌++◌, List, Bool, is_none, IsTrue, Option, take, codes, slice_get}
+use Rattle.std.specs.Option.{option_map_or}
+use Rattle.cache_outside.specs.Causes.{Rose}
+use Rattle.cache_outside.specs.Listing.{Listing}
+use Rattle.cache_outside.specs.Sinks.{behind}
+use Rattle.mount_tool.specs.Words.{Term}
+use Rattle.mount_tool.specs.Replies.{line_text, status_of, usage_text}
+use Rattle.mount_tool.specs.Terms.{plain}
+use Rattle.mount_tool.specs.declared.line.Line.{Line}
+use Rattle.mount_tool.specs.declared.line.Line.TheVariants.{Fault, NoMemory}
+
+-- how often source number i has failed
+abbrev pub count_of : {S : Type 0} → (S → ℕ) → List S → ℕ → ℕ
+count_of faults sources i = option_map_or faults (slice_get sources i) 0
+
+-- the wanted line, where the archive tells, or a mark with its cause: `fault` only where the source's count rose
+abbrev pub IsAllowed : Bool → Line → ℕ → ℕ → Line → Type 0
+IsAllowed tells wanted before now Fault = Rose before now
+IsAllowed tells wanted before now NoMemory = Unit {0}
+IsAllowed tells wanted before now line = IsTrue tells → line ≡ wanted
+
+-- a front of the text was written
+abbrev pub IsFront : Option (List ℕ) → Option (List ℕ) → List ℕ → Type 0
+IsFront old new text = (k : ℕ) × (new ≡ behind old (take k text))
+
+-- the text was written whole, and the status is its own; or a front of it was, and the sink failed or memory was wanted
+abbrev pub IsWritten : Option (List ℕ) → Option (List ℕ) → ℕ → ℕ → List ℕ → ℕ → ℕ → Type 0
+IsWritten old new before now text own status =
+    ((new ≡ behind old text) × (status ≡ own)) ⊎ (IsFront old new text × (((status ≡ 5) × Rose before now) ⊎ (status ≡ 6)))
+
+-- `usage` was written whole with status 2, or a front of it where the sink failed; or the sink wanted memory, with status 6
+abbrev pub IsUsageRun : Option (List ℕ) → Option (List ℕ) → ℕ → ℕ → ℕ → Type 0
+IsUsageRun old new before now status =
+    ((status ≡ 2) × ((new ≡ behind old usage_text) ⊎ (IsFront old new usage_text × Rose before now))) ⊎ ((status ≡ 6) × IsFront old new usage_text)
+
+-- a run of `term`: an allowed line, and how it and its newline were written
+pub record IsTermRun (tells : Bool) (blobs : Listing) (t : Term) (source_before source_now sink_before sink_now : ℕ)
+    (old new : Option (List ℕ)) (status : ℕ) : Type 0 where
+  pub line : Line
+  pub allowed : IsAllowed tells (plain blobs t) source_before source_now line
+  pub written : IsWritten old new sink_before sink_now (line_text line ++ codes "\n") (status_of line) status
+
+-- the words are not in form, or there is no source
+abbrev pub is_usage : Option Term → ℕ → Bool
+is_usage words sources = is_none words || (sources == 0)
