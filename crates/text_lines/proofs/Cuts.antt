@@ -52,7 +52,7 @@ unfolding cut
 cut_backslash [] = refl
 cut_backslash (y ∷ t) = front_here y 2 (cut t).lines (cut t).tail ∙ sym (front_twice [] (y ∷ []) 1 1 (cut t).lines (cut t).tail)
 
-neither : (a b : Bool) → ¬ ((a || b) ≡ true) → (a ≡ false) × (b ≡ false)
+pub neither : (a b : Bool) → ¬ ((a || b) ≡ true) → (a ≡ false) × (b ≡ false)
 neither true b h = absurd (h refl)
 neither false true h = absurd (h refl)
 neither false false h = (refl, refl)

@@ -3,6 +3,7 @@ ghost use Rattle.std.specs.Prelude.{◌≡◌, ℕ, List, Some, IfOk};
 ghost use Rattle.text_lines.specs.Escapes.{escape, unescape};
 
 use byte_text::Text;
+use memchr::memchr2;
 use std::alloc::{AllocError, Global};
 
 /// The bytes with a backslash before each newline and each backslash, so that they stand in one line.
@@ -10,12 +11,14 @@ pub fn escape(alloc: Global, bytes: &[u8]) -> Result<Text, AllocError>
     ensures { IfOk result (λ t. t ≡ escape bytes.now) }
 {
     let mut text = Text::new(alloc);
-    for b in bytes {
-        if *b == b'\n' || *b == b'\\' {
-            text.push(b'\\')?;
-        }
-        text.push(*b)?;
+    let mut left = bytes;
+    while let Some(run) = memchr2(b'\n', b'\\', left) {
+        text.extend(&left[..run])?;
+        text.push(b'\\')?;
+        text.push(left[run])?;
+        left = &left[run + 1..];
     }
+    text.extend(left)?;
     Ok(text)
 }
 
@@ -25,20 +28,17 @@ pub fn unescape(alloc: Global, bytes: &[u8]) -> Result<Option<Text>, AllocError>
     ensures { IfOk result (λ o. o ≡ unescape bytes.now) }
 {
     let mut text = Text::new(alloc);
-    let mut taken = false;
-    for b in bytes {
-        if taken {
-            text.push(*b)?;
-            taken = false;
-        } else if *b == b'\\' {
-            taken = true;
-        } else if *b == b'\n' {
+    let mut left = bytes;
+    while let Some(run) = memchr2(b'\n', b'\\', left) {
+        if left[run] == b'\n' || left.len() - run == 1 {
             return Ok(None);
-        } else {
-            text.push(*b)?;
         }
+        text.extend(&left[..run])?;
+        text.push(left[run + 1])?;
+        left = &left[run + 2..];
     }
-    Ok(if taken { None } else { Some(text) })
+    text.extend(left)?;
+    Ok(Some(text))
 }
 
 /// A law: what was escaped is read again.

@@ -2,11 +2,15 @@
 // it is.
 #![tactic(auto)]
 
+mod errors;
 mod escapes;
 mod reader;
 mod steps;
 #[cfg(test)]
 mod tests;
+mod words;
 
+pub use errors::TextError;
 pub use escapes::{escape, escape_is_undone, unescape};
 pub use reader::{Line, LineError, LineReader};
+pub use words::{is_checksum, number};

@@ -1,5 +1,8 @@
+ghost use Rattle.std.specs.Prelude.{◌<◌};
+
 use crate::{Line, LineError, LineReader, escape, unescape};
 use directory_input::{BytesError, Input, MemBytes};
+use std::alloc::Global;
 use std::process::Abort;
 use std::test::Fail;
 
@@ -28,6 +31,71 @@ fn shows(
         Ok(None) => assert!(rt; wanted == Ok(None)),
         Err(e) => assert!(rt; wanted == Err(e)),
     }
+}
+
+/// Lines behind one of `front` bytes, whose end is counted, so that the first piece that is read ends among them.
+fn reads_across(rt: &impl Abort, alloc: Global, front: usize) -> Result<(), Fail>
+    requires { (0 < front) × (front < 70000) }
+{
+    let plain = vec![in alloc; b'p'; front - 1]?;
+    let mut text = Vec::from_slice(alloc, &plain)?;
+    text.extend_from_slice(b"\nx\\\nEND\nab\\\\\nc\n")?;
+    let mut files = MemBytes::new(alloc);
+    files.add(text)?;
+    let mut reader = LineReader::new(alloc, Input::open(&files, 0))?;
+    let at = front as u64;
+    let first = reader.next_line(&mut files);
+    shows(rt, first, Ok(Some((0, plain.as_slice()))));
+    let second = reader.next_line(&mut files);
+    shows(rt, second, Ok(Some((at, b"x\nEND"))));
+    let third = reader.next_line(&mut files);
+    shows(rt, third, Ok(Some((at + 7, b"ab\\"))));
+    let fourth = reader.next_line(&mut files);
+    shows(rt, fourth, Ok(Some((at + 12, b"c"))));
+    let end = reader.next_line(&mut files);
+    shows(rt, end, Ok(None));
+    Ok(())
+}
+
+#[test]
+fn reads_across_pieces(rt: HostRuntime) -> Result<(), Fail> {
+    for front in 65_520..65_540 {
+        reads_across(&rt, rt.alloc(), front)?;
+    }
+    Ok(())
+}
+
+/// How long the content of the first line is, of a text of so many equal bytes and what stands behind them.
+fn first_length(alloc: Global, count: usize, end: &[u8]) -> Result<Result<usize, LineError>, Fail> {
+    let mut text = vec![in alloc; b'p'; count]?;
+    text.extend_from_slice(end)?;
+    let mut files = MemBytes::new(alloc);
+    files.add(text)?;
+    let mut reader = LineReader::new(alloc, Input::open(&files, 0))?;
+    match reader.next_line(&mut files) {
+        Ok(Some(line)) => Ok(Ok(line.content.as_bytes().len())),
+        Ok(None) => Ok(Ok(0)),
+        Err(e) => Ok(Err(e)),
+    }
+}
+
+#[test]
+fn reads_long_lines(rt: HostRuntime) -> Result<(), Fail> {
+    let alloc = rt.alloc();
+    assert_eq!(rt; first_length(alloc, 16_777_215, b"\n")?, Ok(16_777_215));
+    assert_eq!(rt;
+        first_length(alloc, 16_777_216, b"\n")?,
+        Err(LineError::TooLong { at: 0 })
+    );
+    assert_eq!(rt;
+        first_length(alloc, 16_777_216, b"")?,
+        Err(LineError::Unended { at: 0 })
+    );
+    assert_eq!(rt;
+        first_length(alloc, 16_777_217, b"")?,
+        Err(LineError::TooLong { at: 0 })
+    );
+    Ok(())
 }
 
 /// The first read fails; the last line is cut off inside an escape.
