@@ -4,3 +4,4 @@ pub mod Nothing
 pub mod Sinks
 pub mod MemSinks
 pub mod MemSources
+pub mod Frames

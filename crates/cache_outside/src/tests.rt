@@ -1,4 +1,5 @@
 // Each call of the sources and sinks, run once with ample memory.
+use crate::strange_files::StrangeFiles;
 use crate::{
     BlobSource, FolderSource, MemSink, MemSource, OutError, Sink, SourceCall, StdSink, Untold,
     manifests_in,
@@ -161,5 +162,29 @@ fn folder_answers(rt: HostRuntime) -> Result<(), Fail> {
     assert_eq!(rt; source.read(0, 6, &mut []), Ok(0));
     fs::remove_dir_all(&rt, "folder")?;
     assert!(rt; FolderSource::open(rt.clone()?, "folder").is_err());
+    Ok(())
+}
+
+#[test]
+fn folder_passes_over_strange_files(rt: HostRuntime) -> Result<(), Fail> {
+    fs::create_dir_all(&rt, "strange/below")?;
+    for (name, text) in [
+        ("strange/mount-b", "second"),
+        ("strange/__a", "abc"),
+        ("strange/__locked", "x"),
+    ] {
+        fs::write(&rt, name, text)?;
+    }
+    let files = (StrangeFiles { rt: rt.clone()? }, rt.alloc());
+    let mut source = FolderSource::open(files, "strange")?;
+    assert_eq!(rt; source.find("__a"), Ok(Some(0)));
+    assert_eq!(rt; source.find("__locked"), Ok(Some(1)));
+    assert_eq!(rt; source.find("mount-b"), Ok(Some(2)));
+    assert_eq!(rt; source.size(1), Ok(1));
+    let mut out = [0; 3];
+    assert_eq!(rt; source.read(1, 0, &mut out), Err(OutError::Failed));
+    assert_eq!(rt; source.read(0, 0, &mut out), Ok(3));
+    assert_eq!(rt; out.as_slice(), b"abc".as_slice());
+    fs::remove_dir_all(&rt, "strange")?;
     Ok(())
 }
