@@ -5,7 +5,6 @@ ghost use Rattle.mount_manifest.specs.Steps.{Gives, GivesList, at_most, each};
 ghost use Rattle.mount_manifest.specs.Manifest.{not_zero, sum_with, file_limits, all_file_limits, segment_limits, all_segment_limits, no_doubles, same_file, physical_name_of, same_segment, segment_name_of, file_number, file_of, optional_file, placed};
 ghost use Rattle.mount_manifest.specs.Sound.{FewDocs};
 
-use crate::names::copy_of;
 use crate::record::{FileRecord, NamedSegment, Segment};
 use crate::{Field, ManifestError};
 use byte_text::Name;
@@ -85,13 +84,13 @@ fn is_among_segments(segment: &NamedSegment, segments: &[NamedSegment]) -> bool
 }
 
 /// Refuses the first file whose physical name or name is that of an earlier one.
-pub fn no_double_files(alloc: Global, files: &[FileRecord]) -> Result<(), ManifestError>
+pub fn no_double_files(files: &[FileRecord]) -> Result<(), ManifestError>
     ensures { Gives result (no_doubles same_file physical_name_of [] files.now) }
 {
     for i in 0..files.len() {
         if is_among_files(&files[i], &files[..i]) {
             return Err(ManifestError::Double {
-                name: copy_of(alloc, &files[i].physical_name)?,
+                name: files[i].physical_name.clone()?,
             });
         }
     }
@@ -99,13 +98,13 @@ pub fn no_double_files(alloc: Global, files: &[FileRecord]) -> Result<(), Manife
 }
 
 /// Refuses the first segment whose name is that of an earlier one.
-pub fn no_double_segments(alloc: Global, segments: &[NamedSegment]) -> Result<(), ManifestError>
+pub fn no_double_segments(segments: &[NamedSegment]) -> Result<(), ManifestError>
     ensures { Gives result (no_doubles same_segment segment_name_of [] segments.now) }
 {
     for i in 0..segments.len() {
         if is_among_segments(&segments[i], &segments[..i]) {
             return Err(ManifestError::Double {
-                name: copy_of(alloc, &segments[i].name)?,
+                name: segments[i].name.clone()?,
             });
         }
     }
@@ -126,47 +125,39 @@ pub fn file_number(files: &[FileRecord], name: &Name) -> Option<u32>
     None
 }
 
-fn file_of(alloc: Global, files: &[FileRecord], name: &Name) -> Result<u32, ManifestError>
+fn file_of(files: &[FileRecord], name: &Name) -> Result<u32, ManifestError>
     requires { length files.now ≤ 4096 }
     ensures { Gives result (file_of files.now name.now) }
 {
     match file_number(files, name) {
         Some(n) => Ok(n),
         None => Err(ManifestError::NoFile {
-            name: copy_of(alloc, name)?,
+            name: name.clone()?,
         }),
     }
 }
 
-fn optional_file(
-    alloc: Global,
-    files: &[FileRecord],
-    name: &Option<Name>,
-) -> Result<Option<u32>, ManifestError>
+fn optional_file(files: &[FileRecord], name: &Option<Name>) -> Result<Option<u32>, ManifestError>
     requires { length files.now ≤ 4096 }
     ensures { Gives result (optional_file files.now name.now) }
 {
     match name {
         None => Ok(None),
-        Some(name) => Ok(Some(file_of(alloc, files, name)?)),
+        Some(name) => Ok(Some(file_of(files, name)?)),
     }
 }
 
 #[tactic(auto, unfolding(crate::specs::Manifest::placed))]
-fn placed(
-    alloc: Global,
-    files: &[FileRecord],
-    segment: &NamedSegment,
-) -> Result<Segment, ManifestError>
+fn placed(files: &[FileRecord], segment: &NamedSegment) -> Result<Segment, ManifestError>
     requires files { length files.now ≤ 4096 }
     requires docs { segment.now.docs ≤ 16777216 }
     ensures { Gives result (placed files.now segment.now) }
 {
-    let postings = file_of(alloc, files, &segment.postings)?;
-    let stored = optional_file(alloc, files, &segment.stored)?;
-    let live = optional_file(alloc, files, &segment.live)?;
+    let postings = file_of(files, &segment.postings)?;
+    let stored = optional_file(files, &segment.stored)?;
+    let live = optional_file(files, &segment.live)?;
     Ok(Segment {
-        name: copy_of(alloc, &segment.name)?,
+        name: segment.name.clone()?,
         docs: segment.docs as u32,
         postings,
         stored,
@@ -186,7 +177,7 @@ pub fn all_placed(
 {
     let mut list = Vec::new(alloc);
     for segment in segments {
-        list.push(placed(alloc, files, segment)?)?;
+        list.push(placed(files, segment)?)?;
     }
     Ok(list)
 }

@@ -43,8 +43,8 @@ fn checked(alloc: Global, text: ShapedText) -> Result<Manifest, ManifestError>
     all_file_limits(&files)?;
     at_most(1024, Field::Segments, segments.len() as u64)?;
     all_segment_limits(&segments)?;
-    no_double_files(alloc, &files)?;
-    no_double_segments(alloc, &segments)?;
+    no_double_files(&files)?;
+    no_double_segments(&segments)?;
     let segments = all_placed(alloc, &files, &segments)?;
     Ok(Manifest { files, segments })
 }

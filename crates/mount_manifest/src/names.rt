@@ -1,11 +1,8 @@
-// The names of data in the store, and a copy of a name.
-ghost use Rattle.std.specs.Prelude.{◌≡◌, IfOk};
+// The names of data in the store.
+ghost use Rattle.std.specs.Prelude.{◌≡◌};
 ghost use Rattle.std.specs.List.{list_all};
 ghost use Rattle.std.specs.Char.{is_ascii_digit};
 ghost use Rattle.mount_manifest.specs.Manifest.{is_file_name, is_part_end, ends_with};
-
-use byte_text::Name;
-use std::alloc::{AllocError, Global};
 
 fn all_digits(bytes: &[u8]) -> bool
     ensures { result ≡ list_all is_ascii_digit bytes.now }
@@ -41,12 +38,4 @@ pub fn is_file_name(bytes: &[u8]) -> bool
     ensures { result ≡ is_file_name bytes.now }
 {
     bytes.len() >= 3 && bytes.len() <= 200 && bytes.starts_with(b"__") && !ends_like_a_part(bytes)
-}
-
-/// A copy of this name, read again from its bytes, since what a clone gives is not promised.
-pub fn copy_of(alloc: Global, name: &Name) -> Result<Name, AllocError>
-    ensures { IfOk result (λ n. n ≡ name.now) }
-{
-    let bytes = name.as_str().as_bytes();
-    Ok(Name::read(alloc, bytes)?.unwrap())
 }

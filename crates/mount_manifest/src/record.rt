@@ -3,7 +3,6 @@ ghost use Rattle.std.specs.Prelude.{◌≡◌, ◌≤◌, ◌<◌, ◌+◌, ◌-
 ghost use Rattle.std.specs.Fmt.{decimal};
 ghost use Rattle.mount_manifest.specs.Parts.{part_length, part_name, parts_of};
 
-use crate::names::copy_of;
 use byte_text::Name;
 use std::alloc::{AllocError, Global};
 
@@ -85,7 +84,7 @@ impl FileRecord {
         ensures { IfOk result (λ n. n ≡ part_name self.now k) }
     {
         if self.parts() == 1 {
-            return copy_of(alloc, &self.name);
+            return self.name.clone();
         }
         numbered(alloc, &self.name, k)
     }

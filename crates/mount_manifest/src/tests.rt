@@ -52,6 +52,28 @@ fn one_part_has_the_file_name(rt: HostRuntime) -> Result<(), ManifestError> {
     Ok(())
 }
 
+/// A file of no bytes, a part size that divides the length, one that does not, and as many parts as a manifest may have.
+#[test]
+fn counts_parts(rt: HostRuntime) -> Result<(), ManifestError> {
+    let alloc = rt.alloc();
+    for (length, part_size, parts, last) in [
+        (0, 100, 1, 0),
+        (200, 100, 2, 100),
+        (172, 100, 2, 72),
+        (1_048_576, 1, 1_048_576, 1),
+    ] {
+        let text = format!(in alloc;
+            "{{\"version\":1,\"files\":[{{\"name\":\"__a\",\"physical_name\":\"f\",\"length\":{length},\"part_size\":{part_size}}}],\"segments\":[]}}"
+        )?;
+        let manifest = Manifest::read(alloc, text.as_bytes())?;
+        assert_eq!(rt; manifest.files_len(), 1);
+        let file = manifest.file(0);
+        assert_eq!(rt; file.parts(), parts);
+        assert_eq!(rt; file.part_len(parts - 1), last);
+    }
+    Ok(())
+}
+
 #[test]
 fn refuses(rt: HostRuntime) -> Result<(), ManifestError> {
     let alloc = rt.alloc();
@@ -64,6 +86,10 @@ fn refuses(rt: HostRuntime) -> Result<(), ManifestError> {
         (
             "{\"version\":1,\"files\":[{\"name\":\"__a\",\"physical_name\":\"f\",\"length\":1099511623681}],\"segments\":[]}",
             "Limit { field: Length, value: 1099511623681 }",
+        ),
+        (
+            "{\"version\":1,\"files\":[{\"name\":\"__a\",\"physical_name\":\"f\",\"length\":1048577,\"part_size\":1}],\"segments\":[]}",
+            "Limit { field: Parts, value: 1048577 }",
         ),
         (
             "{\"version\":1,\"files\":[{\"name\":\"__a\",\"physical_name\":\"f\",\"length\":1},{\"name\":\"__b\",\"physical_name\":\"f\",\"length\":1}],\"segments\":[]}",
