@@ -1,9 +1,9 @@
 -- The order of candidates: the first from a list on, and the one behind a region.
-use Rattle.std.proofs.Common.{arith, ◌≡◌, ◌<◌, ◌≤◌, ◌+◌, ℕ, zero, suc, Bool, true, false, List, [], ◌∷◌, ◌++◌, sym, ◌∙◌, ap, inl, inr, refl, length, drop, Option, Some, None, add-one}
-use Rattle.std.specs.Prelude.{cond, not, ◌==◌, slice_get, if◌then◌else◌}
+use Rattle.std.proofs.Common.{arith, ◌≡◌, ◌<◌, ◌≤◌, ◌+◌, ℕ, zero, suc, true, false, List, [], ◌∷◌, ◌++◌, sym, ◌∙◌, inl, inr, refl, drop, Some, None}
+use Rattle.std.specs.Prelude.{◌==◌, slice_get}
 use Rattle.std.specs.List.{position_from}
 use Rattle.std.proofs.lemmas.Bool.{cases_eq, cases_Bool}
-use Rattle.freq_lists.specs.Lists.{times, times_in, head, list_at, next, behind, is_in, list_of}
+use Rattle.freq_lists.specs.Lists.{times_in, head, list_at, next, behind, is_in}
 use Rattle.freq_lists.proofs.Counts.{same_is, other_is}
 use Rattle.cache_policy.specs.Ageing.{candidates_in, next_after}
 

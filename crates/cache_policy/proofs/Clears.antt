@@ -1,6 +1,6 @@
 -- A clear, region by region.
-use Rattle.std.proofs.Common.{arith, ◌≡◌, ◌<◌, ◌≤◌, ◌+◌, ℕ, zero, suc, Bool, true, false, List, [], ◌∷◌, ◌++◌, sym, ◌∙◌, ap, inl, inr, refl, length, drop, Option, Some, None, add-one, append_assoc, append-nil}
-use Rattle.std.specs.Prelude.{cond, not, ◌==◌, slice_get, slice_set, IsSome, if◌then◌else◌}
+use Rattle.std.proofs.Common.{arith, ◌≡◌, ◌<◌, ◌≤◌, ◌+◌, ℕ, zero, suc, Bool, true, false, List, [], ◌∷◌, ◌++◌, sym, ◌∙◌, inl, inr, refl, length, drop, Option, Some, None, add-one, append_assoc, append-nil}
+use Rattle.std.specs.Prelude.{slice_set, IsSome, if◌then◌else◌}
 use Rattle.std.proofs.lemmas.Bool.{cases_eq, cases_Bool}
 use Rattle.freq_lists.specs.Lists.{is_in}
 use Rattle.freq_lists.proofs.Counts.{same_is, other_is}

@@ -1,9 +1,9 @@
 -- What is true of every policy stays true after each call.
-use Rattle.std.proofs.Common.{arith, ◌≡◌, ◌<◌, ◌≤◌, ◌+◌, ℕ, zero, suc, Bool, true, false, List, [], ◌∷◌, ◌++◌, sym, ◌∙◌, ap, inl, inr, refl, length, drop, Option, Some, None, replicate}
-use Rattle.std.specs.Prelude.{cond, not, ◌==◌, slice_get, slice_set, IsSome, ◌⊎◌, if◌then◌else◌}
+use Rattle.std.proofs.Common.{arith, ◌≡◌, ◌<◌, ◌≤◌, ℕ, zero, suc, Bool, List, [], ◌∷◌, ◌++◌, sym, ◌∙◌, inl, inr, refl, length, drop, Option, Some, None, replicate}
+use Rattle.std.specs.Prelude.{slice_set, IsSome, ◌⊎◌}
 use Rattle.std.specs.List.{position_from, range_with_len}
 use Rattle.std.proofs.lemmas.List.{length-set, length-replicate}
-use Rattle.std.proofs.lemmas.Bool.{cases_eq, cases_Bool, cases_lt}
+use Rattle.std.proofs.lemmas.Bool.{cases_eq, cases_lt}
 use Rattle.freq_lists.specs.Lists.{without, unlink, push_back, times, times_in, head}
 use Rattle.freq_lists.proofs.Counts.{same_is, other_is, times_append, times_push, times_empty, length_push, length_unlink}
 use Rattle.freq_lists.proofs.Room.{room}
@@ -11,7 +11,7 @@ use Rattle.cache_policy.specs.Policy.{PolicyView, tag_at, is_tag, new_policy}
 use Rattle.cache_policy.specs.Ageing.{lower}
 use Rattle.cache_policy.specs.Kept.{IsGood, places, one_if_some}
 use Rattle.cache_policy.proofs.Lowers.{times_unlink}
-use Rattle.cache_policy.proofs.Tags.{at, at_same, at_other, at_past, at_within, one_is, not_found}
+use Rattle.cache_policy.proofs.Tags.{at, at_same, at_other, at_within, one_is, not_found}
 use Rattle.cache_policy.proofs.Places.{moved, moved_in, pushed_again, unlink_other_times, head_free, times_lower, length_lower, all_free, none_past}
 
 module _ (p : PolicyView) (good : IsGood p) where

@@ -1,10 +1,8 @@
 -- All lists are lowered, from the lowest up.
-use Rattle.std.proofs.Common.{arith, ◌≡◌, ◌<◌, ◌≤◌, ◌+◌, ◌-◌, ℕ, zero, suc, Bool, true, false, List, [], ◌∷◌, ◌++◌, sym, ◌∙◌, ap, inl, inr, refl, length, take, drop, min, append-nil}
-use Rattle.std.specs.Prelude.{not, filter, ◌^◌}
-use Rattle.std.proofs.lemmas.Bool.{cases_lt}
+use Rattle.std.proofs.Common.{arith, ◌≡◌, ◌<◌, ◌≤◌, ◌+◌, ℕ, zero, suc, Bool, List, [], ◌∷◌, ap, refl, length, take, drop, min, append-nil}
+use Rattle.std.specs.Prelude.{not, filter}
 use Rattle.freq_lists.specs.Lists.{list_at}
-use Rattle.cache_policy.specs.Policy.{rise}
-use Rattle.cache_policy.specs.Ageing.{lower, lower_rest, lowered_of, count_lowered}
+use Rattle.cache_policy.specs.Ageing.{lower}
 use Rattle.cache_policy.specs.Steps.{lowering, lower_from, count_from}
 
 pub take_whole : (i : ℕ) (l : List ℕ) → length l ≤ i → take i l ≡ l

@@ -1,10 +1,10 @@
 -- One list is lowered, entry by entry.
-use Rattle.std.proofs.Common.{arith, ◌≡◌, ◌≢◌, ◌<◌, ◌≤◌, ◌+◌, ◌-◌, ℕ, zero, suc, Bool, true, false, List, [], ◌∷◌, ◌++◌, sym, ◌∙◌, ap, inl, inr, refl, length, take, drop, get_or, Option, Some, None, append_assoc, append-nil}
-use Rattle.std.specs.Prelude.{cond, not, ◌==◌, filter, slice_get, map, if◌then◌else◌}
+use Rattle.std.proofs.Common.{arith, ◌≡◌, ◌<◌, ◌≤◌, ◌+◌, ℕ, zero, suc, Bool, true, false, List, [], ◌∷◌, ◌++◌, ◌∙◌, ap, inl, inr, refl, length, take, drop, Some, None, append_assoc, append-nil}
+use Rattle.std.specs.Prelude.{not, ◌==◌, filter, slice_get}
 use Rattle.std.proofs.lemmas.Bool.{cases_eq, cases_Bool}
 use Rattle.std.proofs.lemmas.Bool.Decides.{nat_tests}
 use Rattle.std.proofs.lemmas.List.Elements.{filter-append}
-use Rattle.freq_lists.specs.Lists.{without, unlink, push_back, times, times_in, next, behind, is_in, head, list_at, list_of}
+use Rattle.freq_lists.specs.Lists.{without, unlink, push_back, times, times_in, next, behind, is_in, head, list_at}
 use Rattle.cache_policy.specs.Steps.{lowering}
 
 pub same_is : (a b : ℕ) → a ≡ b → (a == b) ≡ true

@@ -1,6 +1,6 @@
 -- Candidates are mapped regions.
-use Rattle.std.proofs.Common.{arith, ◌≡◌, ◌<◌, ◌≤◌, ◌+◌, ℕ, zero, suc, Bool, true, false, List, [], ◌∷◌, sym, ◌∙◌, ap, inl, inr, refl, length, Option, Some, None}
-use Rattle.std.specs.Prelude.{cond, ◌==◌, IsSome, IfSome}
+use Rattle.std.proofs.Common.{arith, ◌≡◌, ◌<◌, ◌+◌, ℕ, false, List, [], ◌∷◌, inl, inr, refl, Option, Some, None}
+use Rattle.std.specs.Prelude.{◌==◌, IsSome, IfSome}
 use Rattle.std.specs.List.{position_from}
 use Rattle.std.proofs.lemmas.Bool.{cases_Bool}
 use Rattle.freq_lists.specs.Lists.{ListsView, times, times_in, is_in}

@@ -1,8 +1,8 @@
 -- How often a region stands in the lists after a call.
-use Rattle.std.proofs.Common.{arith, ◌≡◌, ◌<◌, ◌≤◌, ◌+◌, ℕ, zero, suc, Bool, true, false, List, [], ◌∷◌, ◌++◌, sym, ◌∙◌, ap, inl, inr, refl, length, drop, Option, Some, None, replicate}
-use Rattle.std.specs.Prelude.{cond, not, ◌==◌, filter, if◌then◌else◌}
+use Rattle.std.proofs.Common.{arith, ◌≡◌, ◌<◌, ◌≤◌, ◌+◌, ℕ, zero, suc, Bool, List, [], ◌∷◌, ◌++◌, sym, ◌∙◌, ap, inl, inr, refl, length, drop, Some}
+use Rattle.std.specs.Prelude.{cond, not, ◌==◌, filter}
 use Rattle.std.specs.List.{range_with_len}
-use Rattle.std.proofs.lemmas.Bool.{cases_eq, cases_Bool, cases_lt}
+use Rattle.std.proofs.lemmas.Bool.{cases_eq, cases_Bool}
 use Rattle.freq_lists.specs.Lists.{without, unlink, push_back, times, times_in, head}
 use Rattle.freq_lists.proofs.Counts.{same_is, other_is, times_append, times_push, length_unlink}
 use Rattle.cache_policy.proofs.Lowers.{times_without, times_unlink}

@@ -1,6 +1,6 @@
 -- Worked examples, computed.
-use Rattle.std.specs.Prelude.{◌≡◌, ℕ, List, [], ◌∷◌, Option, Some, None, refl, replicate}
-use Rattle.cache_policy.specs.Policy.{PolicyView, new_policy, unmap, leave, settle, find, clear}
+use Rattle.std.specs.Prelude.{◌≡◌, [], ◌∷◌, Some, refl, replicate}
+use Rattle.cache_policy.specs.Policy.{PolicyView, new_policy, find, clear}
 use Rattle.cache_policy.specs.Ageing.{map_front, touch, decay, candidates, next_candidate}
 
 abbrev three : PolicyView

@@ -1,8 +1,8 @@
 -- The keys by region: what a write leaves, and what a search finds.
-use Rattle.std.proofs.Common.{arith, ◌≡◌, ◌<◌, ◌≤◌, ◌+◌, ℕ, zero, suc, Bool, true, false, List, [], ◌∷◌, ◌++◌, sym, ◌∙◌, ap, inl, inr, refl, length, take, drop, get_or, Option, Some, None}
-use Rattle.std.specs.Prelude.{cond, not, ◌==◌, filter, slice_get, slice_set, option_and_then, is_some, IsSome, IfSome, IfNone, if◌then◌else◌}
+use Rattle.std.proofs.Common.{arith, ◌≡◌, ◌<◌, ◌≤◌, ◌+◌, ℕ, zero, suc, Bool, true, List, [], ◌∷◌, sym, ap, inl, inr, refl, length, get_or, Option, Some, None}
+use Rattle.std.specs.Prelude.{◌==◌, slice_get, slice_set, option_and_then, IsSome, IfSome, IfNone, if◌then◌else◌}
 use Rattle.std.specs.List.{position_from}
-use Rattle.std.proofs.lemmas.Bool.{cases_eq, cases_Bool, cases_lt}
+use Rattle.std.proofs.lemmas.Bool.{cases_eq, cases_Bool}
 use Rattle.std.proofs.lemmas.Bool.Decides.{nat_tests}
 use Rattle.freq_lists.proofs.Counts.{same_is, other_is}
 use Rattle.cache_policy.specs.Policy.{is_tag}

@@ -1,6 +1,6 @@
 -- How regions age, by the time of their last access: what a mapping, an access and a decay make of the policy, and the order in
 -- which mapped regions are candidates for eviction.
-use Rattle.std.specs.Prelude.{◌+◌, ◌-◌, ◌*◌, ◌==◌, ◌&&◌, ℕ, zero, suc, Bool, not, nat_le, nat_lt, List, [], ◌∷◌, ◌++◌, length, drop, filter, slice_set, slice_index, Option, Some, None, if◌then◌else◌}
+use Rattle.std.specs.Prelude.{◌+◌, ◌-◌, ◌*◌, ◌==◌, ◌&&◌, ℕ, Bool, not, nat_le, nat_lt, List, [], ◌∷◌, ◌++◌, length, drop, filter, slice_set, slice_index, Option, Some, None, if◌then◌else◌}
 use Rattle.freq_lists.specs.Lists.{push_back, unlink, list_of, head}
 use Rattle.cache_policy.specs.Policy.{PolicyView, rise}
 

@@ -1,5 +1,5 @@
 -- What is true of every policy.
-use Rattle.std.specs.Prelude.{◌≡◌, ◌<◌, ◌≤◌, ◌+◌, ℕ, List, length, Option, Some, None}
+use Rattle.std.specs.Prelude.{◌≡◌, ◌<◌, ◌≤◌, ◌+◌, ℕ, length, Option, Some, None}
 use Rattle.freq_lists.specs.Lists.{times, times_in}
 use Rattle.cache_policy.specs.Policy.{PolicyView, tag_at}
 

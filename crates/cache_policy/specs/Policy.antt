@@ -1,5 +1,5 @@
 -- The state of the policy, and the calls that ageing does not touch, each as an equation on lists.
-use Rattle.std.specs.Prelude.{◌≡◌, ◌<◌, ◌+◌, ◌-◌, ◌*◌, ◌^◌, ◌==◌, ◌&&◌, ℕ, zero, suc, min, Bool, true, false, not, nat_le, nat_lt, List, [], ◌∷◌, ◌++◌, length, map, filter, fold, replicate, slice_get, slice_set, slice_index, drop, Option, Some, None, is_some, option_and_then, if◌then◌else◌}
+use Rattle.std.specs.Prelude.{◌+◌, ◌-◌, ◌^◌, ◌==◌, ℕ, min, Bool, false, List, [], ◌∷◌, ◌++◌, length, filter, fold, replicate, slice_get, slice_set, Option, Some, None, is_some, option_and_then, if◌then◌else◌}
 use Rattle.std.specs.List.{position_from, range_with_len}
 use Rattle.region_ranges.specs.Keys.{manifest_of}
 use Rattle.freq_lists.specs.Lists.{unlink, without}

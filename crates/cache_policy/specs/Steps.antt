@@ -1,5 +1,5 @@
 -- What the loops of a decay have done so far.
-use Rattle.std.specs.Prelude.{◌+◌, ◌-◌, ◌*◌, ◌&&◌, ℕ, zero, suc, Bool, not, nat_le, List, [], ◌∷◌, ◌++◌, length, take, drop, filter, slice_index}
+use Rattle.std.specs.Prelude.{◌-◌, ◌*◌, ℕ, zero, suc, Bool, not, nat_le, List, [], ◌∷◌, ◌++◌, take, drop, filter, slice_index}
 use Rattle.cache_policy.specs.Ageing.{lower, count_lowered}
 
 abbrev pub goes_down : List ℕ → ℕ → ℕ → ℕ → Bool

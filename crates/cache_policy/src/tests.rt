@@ -11,7 +11,7 @@ fn policies_cross() {
     crosses::<Policy>()
 }
 
-// Frequencies 0 to 2, and a least interval of a minute.
+// Frequencies 0 to 99, and a least interval of a minute.
 fn config(regions: u32) -> Config
     requires { (0 < regions) × (regions < 513) }
     ensures { IsConfig result }
@@ -20,7 +20,7 @@ fn config(regions: u32) -> Config
         regions,
         region: 4096,
         range: 4096,
-        max_freq: 3,
+        max_freq: 100,
         min_delta: 60_000,
     }
 }
@@ -104,20 +104,17 @@ fn a_decay_lowers_by_one(rt: HostRuntime) {
 fn a_touch_waits_and_stops_at_the_last_frequency(rt: HostRuntime) {
     let mut policy = Policy::new(rt.alloc(), &config(1)).expect(&rt, "memory");
     map_next(&mut policy, key(0), 0);
-    for (now, want) in [
-        (59_999, 0),
-        (60_000, 1),
-        (119_999, 1),
-        (120_000, 2),
-        (6_000_000, 2),
-    ] {
-        assert_eq!(rt; touch_key(&mut policy, key(0), now), want, "at {now}");
+    for rises in 0..99 {
+        let last = 60_000 * rises;
+        assert_eq!(rt; touch_key(&mut policy, key(0), last + 59_999), rises);
+        assert_eq!(rt; touch_key(&mut policy, key(0), last + 60_000), rises + 1);
     }
+    assert_eq!(rt; touch_key(&mut policy, key(0), 6_000_000), 99);
 }
 
 #[test]
 fn a_touch_at_an_earlier_time_changes_nothing(rt: HostRuntime) {
     let mut policy = Policy::new(rt.alloc(), &config(1)).expect(&rt, "memory");
-    map_next(&mut policy, key(0), 100_000);
-    assert_eq!(rt; touch_key(&mut policy, key(0), 20_000), 0);
+    map_next(&mut policy, key(0), 100);
+    assert_eq!(rt; touch_key(&mut policy, key(0), 50), 0);
 }

@@ -1,6 +1,6 @@
 -- The place of the first element that passes a test, and the lists without it and with it changed.
-use Rattle.std.proofs.Common.{arith, ◌≡◌, ◌≢◌, ◌<◌, ◌≤◌, ◌+◌, ℕ, zero, suc, Bool, true, false, List, [], ◌∷◌, ◌++◌, sym, ◌∙◌, ap, inl, inr, refl, length, drop, take, get_or, set, Option, Some, None}
-use Rattle.std.specs.Prelude.{◌==◌, not, find, remove, IsSome, if◌then◌else◌, cond}
+use Rattle.std.proofs.Common.{arith, ◌≡◌, ◌<◌, ◌+◌, ℕ, suc, Bool, true, false, List, [], ◌∷◌, sym, ap, inl, inr, refl, length, get_or, set, Some}
+use Rattle.std.specs.Prelude.{◌==◌, not, find, remove}
 use Rattle.std.specs.List.{prefix_len}
 use Rattle.std.proofs.lemmas.Bool.{cases_Bool}
 use Rattle.std.proofs.lemmas.Bool.Decides.{nat_tests}

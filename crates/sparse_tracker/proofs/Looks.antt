@@ -1,6 +1,6 @@
 -- What is read from the letters of a sub-range, and what the code looks at in place of them.
-use Rattle.std.proofs.Common.{arith, ◌≡◌, ◌≢◌, ◌<◌, ◌≤◌, ◌+◌, ◌-◌, ℕ, zero, suc, Bool, true, false, List, [], ◌∷◌, ◌++◌, sym, ◌∙◌, ap, inl, inr, refl, length, drop, take, Option, Some, None}
-use Rattle.std.specs.Prelude.{◌==◌, ◌&&◌, ◌||◌, nat_lt, nat_le, min, max, not, map, find, if◌then◌else◌, cond, is_some, IsSome, IfSome, IfNone}
+use Rattle.std.proofs.Common.{arith, ◌≡◌, ◌<◌, ◌≤◌, ◌+◌, ◌-◌, ℕ, zero, suc, Bool, true, false, List, [], ◌∷◌, sym, ◌∙◌, ap, inl, inr, refl, drop, take, Option, Some, None}
+use Rattle.std.specs.Prelude.{max, not, map, find, if◌then◌else◌, is_some, IfSome, IfNone}
 use Rattle.std.specs.List.{list_any, list_all, range_with_len}
 use Rattle.std.proofs.lemmas.Bool.{cases_Bool, cases_lt}
 use Rattle.std.proofs.lemmas.Bool.Decides.{nat_tests}
@@ -8,11 +8,10 @@ use Rattle.region_ranges.specs.declared.ranges.ByteRange.{ByteRange}
 use Rattle.region_ranges.specs.Ranges.{has, IsFirstRun}
 use Rattle.sparse_tracker.specs.declared.gaps.OpenGap.{OpenGap}
 use Rattle.sparse_tracker.specs.declared.tickets.Ticket.{Ticket}
-use Rattle.sparse_tracker.specs.declared.status.Status.{Status}
 use Rattle.sparse_tracker.specs.declared.status.Status.TheVariants.{Ready, Waiting, Failed, Open}
-use Rattle.sparse_tracker.specs.Letters.{Letter, absent, pending, present, is_absent, is_present, is_under, letters_in, ids, Tracker, lacks, status_of, fail_ticket}
+use Rattle.sparse_tracker.specs.Letters.{Letter, absent, pending, present, is_absent, is_present, is_under, letters_in, ids, status_of, fail_ticket}
 use Rattle.sparse_tracker.specs.Kept.{letter_at, letters_of, in_gap, in_any, meets, any_free, mark, AllTaken, AllApart, AllDiffer, AllInside}
-use Rattle.sparse_tracker.proofs.Ties.{take_range, absent_is, seen}
+use Rattle.sparse_tracker.proofs.Ties.{take_range, absent_is}
 use Rattle.sparse_tracker.proofs.Moves.{outside, under_is, is_id}
 
 pub drop_range : {X : Type 0} (f : ℕ → X) (a n m : ℕ) → m ≤ n → drop m (map f (range_with_len a n)) ≡ map f (range_with_len (a + m) (n - m))
@@ -170,3 +169,17 @@ module _ (g len : ℕ) (taken : List ByteRange) (gaps : List OpenGap) (o : OpenG
   pub marked_are : (ks : List Ticket) → AllInside len ks → map (mark o) ks ≡ map (fail_ticket g (letters_of len taken gaps)) ks
   marked_are [] a = refl
   marked_are (k ∷ ks) a = rw (mark_is k a.0 a.1, marked_are ks a.2) refl
+
+-- ---- whether all bytes are present, read from the status
+
+pub waiting_lacks : (ls : List Letter) (failed : Bool) → status_of ls failed ≡ Waiting → list_all is_present ls ≡ false
+waiting_lacks ls failed e = elim (cases_Bool (list_all is_present ls)) [ inl t ↦ absurd (let r = rw t at e in cc) | inr t ↦ t ]
+
+pub ready_has : (ls : List Letter) → status_of ls false ≡ Ready → list_all is_present ls ≡ true
+ready_has ls e = elim (cases_Bool (list_all is_present ls)) [
+  | inl t ↦ t
+  | inr t ↦ elim (cases_Bool (list_any is_absent ls)) [
+    | inl a ↦ absurd (let r = rw (t, a) at e in cc)
+    | inr a ↦ absurd (let r = rw (t, a) at e in cc)
+  ]
+]

@@ -1,15 +1,15 @@
 -- What progress and failure make of the gaps, and of the letter of each place.
-use Rattle.std.proofs.Common.{arith, ◌≡◌, ◌≢◌, ◌<◌, ◌≤◌, ◌+◌, ◌-◌, ℕ, zero, suc, Bool, true, false, List, [], ◌∷◌, ◌++◌, sym, ◌∙◌, ap, inl, inr, refl, length, Option, Some, None}
-use Rattle.std.specs.Prelude.{◌==◌, ◌&&◌, ◌||◌, nat_lt, nat_le, not, map, find, if◌then◌else◌, cond}
-use Rattle.std.specs.List.{list_any, range_with_len}
+use Rattle.std.proofs.Common.{arith, ◌≡◌, ◌<◌, ◌≤◌, ℕ, Bool, true, false, List, [], ◌∷◌, sym, ◌∙◌, ap, inl, inr, refl, Some}
+use Rattle.std.specs.Prelude.{◌==◌, ◌&&◌, nat_lt, nat_le, find, if◌then◌else◌}
+use Rattle.std.specs.List.{list_any}
 use Rattle.std.proofs.lemmas.Bool.{cases_Bool, cases_lt}
 use Rattle.std.proofs.lemmas.Bool.Decides.{nat_tests}
 use Rattle.region_ranges.specs.declared.ranges.ByteRange.{ByteRange}
 use Rattle.region_ranges.specs.Ranges.{has}
 use Rattle.sparse_tracker.specs.declared.gaps.OpenGap.{OpenGap}
-use Rattle.sparse_tracker.specs.Letters.{Letter, absent, pending, present, is_under, change, ids, move_gap, without_gap}
+use Rattle.sparse_tracker.specs.Letters.{absent, present, is_under, change, ids, move_gap}
 use Rattle.sparse_tracker.specs.Kept.{letter_at, letters_of, in_gap, in_any, AllTaken, AllApart, AllDiffer}
-use Rattle.sparse_tracker.proofs.Ties.{map_same, change_range, map_range}
+use Rattle.sparse_tracker.proofs.Ties.{map_same, change_range}
 
 abbrev pub is_id : ℕ → OpenGap → Bool
 is_id g o = o.id == g

@@ -1,11 +1,8 @@
 -- Worked examples, computed.
-use Rattle.std.specs.Prelude.{◌≡◌, ℕ, List, [], ◌∷◌, ◌++◌, true, false, replicate, Option, Some, None, refl}
-use Rattle.region_ranges.specs.declared.ranges.ByteRange.{ByteRange}
-use Rattle.region_ranges.specs.Ranges.{RangesView, first_run}
-use Rattle.sparse_tracker.specs.declared.status.Status.TheVariants.{Ready, Waiting, Failed, Open}
-use Rattle.sparse_tracker.specs.declared.gaps.OpenGap.{OpenGap}
+use Rattle.std.specs.Prelude.{◌≡◌, List, [], ◌∷◌, ◌++◌, true, false, replicate, Some, refl}
+use Rattle.sparse_tracker.specs.declared.status.Status.TheVariants.{Ready, Waiting}
 use Rattle.sparse_tracker.specs.declared.tickets.Ticket.{Ticket}
-use Rattle.sparse_tracker.specs.Letters.{Letter, absent, pending, present, Tracker, TrackerView, new_tracker, wait_for_range, wait_if_pending, progress, fail, leave, status, status_of, absent_run, claimed_run, is_absent, letters_in}
+use Rattle.sparse_tracker.specs.Letters.{Letter, absent, pending, present, Tracker, new_tracker, wait_for_range, wait_if_pending, progress, fail, status, absent_run}
 
 abbrev one : Tracker
 one = wait_for_range (record { start = 0; end = 10 }) (record { start = 2; end = 4 }) (new_tracker 10)

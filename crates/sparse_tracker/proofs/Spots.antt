@@ -1,6 +1,6 @@
 -- The run that a claim takes, and what stays present, place by place.
-use Rattle.std.proofs.Common.{arith, ◌≡◌, ◌≢◌, ◌<◌, ◌≤◌, ◌+◌, ◌-◌, ℕ, zero, suc, Bool, true, false, List, [], ◌∷◌, ◌++◌, sym, ◌∙◌, ap, inl, inr, refl, length, drop, take, get_or, Option, Some, None, length-drop, length-take}
-use Rattle.std.specs.Prelude.{◌==◌, ◌&&◌, ◌||◌, nat_lt, nat_le, max, min, not, map, reverse, find, if◌then◌else◌, cond, slice_get, option_map, ◌⊎◌}
+use Rattle.std.proofs.Common.{arith, ◌≡◌, ◌≢◌, ◌<◌, ◌≤◌, ◌+◌, ◌-◌, ℕ, zero, suc, Bool, true, false, List, [], ◌∷◌, sym, ◌∙◌, ap, inl, inr, refl, length, drop, take, get_or, Option, Some, None, length-drop, length-take}
+use Rattle.std.specs.Prelude.{◌&&◌, nat_lt, max, not, map, reverse, if◌then◌else◌, slice_get, option_map, ◌⊎◌}
 use Rattle.std.specs.List.{prefix_len}
 use Rattle.std.proofs.lemmas.Bool.{cases_Bool, cases_lt}
 use Rattle.std.proofs.lemmas.Bool.Decides.{nat_tests}
@@ -8,9 +8,9 @@ use Rattle.std.proofs.lemmas.List.{get_or-drop, get_or-take, get_or-reverse, len
 use Rattle.std.proofs.lemmas.List.Sums.{prefix_len-le-length, prefix_len_passes, prefix_len_stops}
 use Rattle.std.proofs.lemmas.Option.{slice_get-map}
 use Rattle.region_ranges.specs.declared.ranges.ByteRange.{ByteRange}
-use Rattle.region_ranges.specs.Ranges.{inside, first_run, run_at}
+use Rattle.region_ranges.specs.Ranges.{inside, first_run}
 use Rattle.sparse_tracker.specs.declared.gaps.OpenGap.{OpenGap}
-use Rattle.sparse_tracker.specs.Letters.{Letter, absent, pending, present, is_absent, is_under, change_from, change, absent_run, not_behind, claimed_run, open_gap_at, lacks, Tracker, gap_of, complete_at, progress, wait_for_range, wait_if_pending}
+use Rattle.sparse_tracker.specs.Letters.{Letter, absent, pending, present, is_absent, is_under, change_from, absent_run, not_behind, claimed_run, open_gap_at, lacks, Tracker, gap_of, complete_at, progress, wait_if_pending}
 use Rattle.sparse_tracker.specs.Places.{IsFirstAbsent, IsRunRound, ClaimPlaces, PresentStays}
 
 -- ---- the first run of a list of flags

@@ -1,15 +1,15 @@
 -- What the type keeps, after each change.
-use Rattle.std.proofs.Common.{arith, ◌≡◌, ◌≢◌, ◌<◌, ◌≤◌, ◌+◌, ◌-◌, ℕ, zero, suc, Bool, true, false, List, [], ◌∷◌, ◌++◌, sym, ◌∙◌, ap, inl, inr, refl, length, take, Option, Some, None}
-use Rattle.std.specs.Prelude.{◌==◌, ◌&&◌, ◌||◌, nat_lt, nat_le, not, map, find, if◌then◌else◌, cond, IsSome, IfSome, option_map}
-use Rattle.std.specs.List.{list_any, range_with_len}
-use Rattle.std.proofs.lemmas.Bool.{cases_Bool, cases_lt}
+use Rattle.std.proofs.Common.{arith, ◌≡◌, ◌<◌, ◌≤◌, ℕ, true, false, List, [], ◌∷◌, ◌++◌, sym, ◌∙◌, ap, inl, inr, refl, length, take, Option, Some, None}
+use Rattle.std.specs.Prelude.{◌==◌, ◌&&◌, ◌||◌, not, map, find, if◌then◌else◌, IsSome, IfSome, option_map}
+use Rattle.std.specs.List.{list_any}
+use Rattle.std.proofs.lemmas.Bool.{cases_Bool}
 use Rattle.std.proofs.lemmas.Bool.Decides.{nat_tests}
 use Rattle.std.proofs.lemmas.List.{map-append, take-append-le, take_all}
 use Rattle.region_ranges.specs.declared.ranges.ByteRange.{ByteRange}
 use Rattle.region_ranges.specs.Ranges.{has, inside}
 use Rattle.sparse_tracker.specs.declared.gaps.OpenGap.{OpenGap}
 use Rattle.sparse_tracker.specs.declared.tickets.Ticket.{Ticket}
-use Rattle.sparse_tracker.specs.Letters.{Tracker, ids, numbers, least_unused, TrackerView, move_gap, without_gap, without_ticket, progress, complete, status, gap_of, ticket_of, lacks, wait_if_pending, with_ticket, pending_ticket, claimed_run, new_claim, fail, Letter, absent, pending, present, is_under, new_tracker}
+use Rattle.sparse_tracker.specs.Letters.{Tracker, ids, numbers, least_unused, TrackerView, move_gap, without_gap, without_ticket, progress, complete, status, ticket_of, lacks, wait_if_pending, with_ticket, pending_ticket, claimed_run, new_claim, fail, absent, present, is_under, new_tracker}
 use Rattle.sparse_tracker.specs.declared.status.Status.{Status}
 use Rattle.sparse_tracker.specs.Kept.{letter_at, letters_of, in_gap, in_any, mark, AllTaken, AllApart, AllDiffer, AllInside, IsStored}
 use Rattle.sparse_tracker.proofs.Fresh.{fresh, differ_last}

@@ -1,6 +1,6 @@
 -- The code's ranges and gaps, and the letters that they stand for.
-use Rattle.std.proofs.Common.{arith, ◌≡◌, ◌<◌, ◌≤◌, ◌+◌, ◌-◌, ℕ, zero, suc, Bool, true, false, List, [], ◌∷◌, ◌++◌, sym, ◌∙◌, ap, inl, inr, refl, length, drop, take, get_or, Option, Some, None}
-use Rattle.std.specs.Prelude.{◌&&◌, ◌||◌, nat_lt, nat_le, min, max, not, map, if◌then◌else◌, cond, replicate, slice_get}
+use Rattle.std.proofs.Common.{arith, ◌≡◌, ◌<◌, ◌≤◌, ◌+◌, ◌-◌, ℕ, zero, suc, Bool, true, false, List, [], ◌∷◌, ◌++◌, sym, ◌∙◌, ap, inl, inr, refl, length, take, Some, None}
+use Rattle.std.specs.Prelude.{◌||◌, min, not, map, if◌then◌else◌, replicate}
 use Rattle.std.specs.List.{range_with_len}
 use Rattle.std.proofs.lemmas.Bool.{cases_lt, cases_Bool}
 use Rattle.std.proofs.lemmas.List.{take_all}
@@ -8,7 +8,7 @@ use Rattle.std.proofs.lemmas.Bool.Decides.{nat_tests}
 use Rattle.region_ranges.specs.declared.ranges.ByteRange.{ByteRange}
 use Rattle.region_ranges.specs.Ranges.{inside, has, free_below, first_run}
 use Rattle.sparse_tracker.specs.declared.gaps.OpenGap.{OpenGap}
-use Rattle.sparse_tracker.specs.Letters.{Letter, absent, pending, present, is_absent, change_from, change, least_from, Tracker, claimed_run, not_behind, wait_for_range, new_ticket, with_ticket, open_gap}
+use Rattle.sparse_tracker.specs.Letters.{Letter, absent, pending, is_absent, change_from, change, least_from, Tracker, claimed_run, not_behind, wait_for_range, new_ticket, with_ticket, open_gap}
 use Rattle.sparse_tracker.specs.Kept.{letter_at, letters_of, in_gap, AllTaken, AllInside}
 use Rattle.sparse_tracker.specs.declared.tickets.Ticket.{Ticket}
 use Rattle.std.specs.List.{list_any}

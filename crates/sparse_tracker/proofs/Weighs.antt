@@ -1,11 +1,10 @@
 -- What the calls make of the weights of tickets and gaps.
-use Rattle.std.proofs.Common.{arith, ◌≡◌, ◌<◌, ◌≤◌, ◌+◌, ℕ, zero, suc, Bool, true, false, List, [], ◌∷◌, ◌++◌, sym, ◌∙◌, ap, inl, inr, refl, length, Option, Some, None}
-use Rattle.std.specs.Prelude.{◌==◌, not, map, find, if◌then◌else◌, cond}
+use Rattle.std.proofs.Common.{arith, ◌≡◌, ◌+◌, ℕ, true, false, List, [], ◌∷◌, ◌++◌, sym, ◌∙◌, ap, inl, inr, refl, Some}
+use Rattle.std.specs.Prelude.{◌==◌, map, find, if◌then◌else◌}
 use Rattle.std.proofs.lemmas.Bool.{cases_Bool}
-use Rattle.std.proofs.lemmas.Bool.Decides.{nat_tests}
 use Rattle.sparse_tracker.specs.declared.gaps.OpenGap.{OpenGap}
 use Rattle.sparse_tracker.specs.declared.tickets.Ticket.{Ticket}
-use Rattle.sparse_tracker.specs.Letters.{Letter, Tracker, fail_ticket, move_gap, without_gap, without_ticket}
+use Rattle.sparse_tracker.specs.Letters.{Letter, fail_ticket, move_gap, without_gap, without_ticket}
 use Rattle.sparse_tracker.specs.Weights.{total, by_ticket, by_gap, TicketWeights, GapWeights}
 
 pub total-push : {X : Type 0} (f : X → ℕ) (xs : List X) (x : X) → total f (xs ++ x ∷ []) ≡ total f xs + f x

@@ -1,11 +1,10 @@
 -- A tracker: a letter for each byte, the open gaps, and the tickets. Each call is an equation on these lists.
-use Rattle.std.specs.Prelude.{◌≡◌, ◌<◌, ◌≤◌, ◌+◌, ◌-◌, ◌&&◌, ◌||◌, ◌==◌, ℕ, min, max, zero, suc, Bool, true, false, not, nat_lt, nat_le, List, [], ◌∷◌, ◌++◌, length, take, drop, map, filter, find, replicate, slice_range, Option, Some, None, is_some, option_map, if◌then◌else◌}
+use Rattle.std.specs.Prelude.{◌+◌, ◌&&◌, ◌||◌, ◌==◌, ℕ, zero, suc, Bool, true, false, not, nat_lt, List, [], ◌∷◌, ◌++◌, length, take, map, find, replicate, slice_range, Option, Some, None, option_map, if◌then◌else◌}
 use Rattle.std.specs.List.{list_all, list_any}
 use Rattle.region_ranges.specs.declared.ranges.ByteRange.{ByteRange}
 use Rattle.region_ranges.specs.Ranges.{inside, first_run}
 use Rattle.sparse_tracker.specs.declared.gaps.OpenGap.{OpenGap}
 use Rattle.sparse_tracker.specs.declared.tickets.Ticket.{Ticket}
-use Rattle.sparse_tracker.specs.declared.status.Gap.{Gap}
 use Rattle.sparse_tracker.specs.declared.status.Claim.{Claim}
 use Rattle.sparse_tracker.specs.declared.status.Status.{Status}
 use Rattle.sparse_tracker.specs.declared.status.Status.TheVariants.{Ready, Waiting, Failed, Open}
@@ -114,6 +113,10 @@ new_claim range sub t = record { gap = option_map (λ (run : ByteRange). record 
 -- whether a byte of `sub` is absent
 abbrev pub lacks : ByteRange → Tracker → Bool
 lacks sub t = list_any is_absent (letters_in sub.start sub.end t.letters)
+
+-- whether all bytes of `sub` are present
+abbrev pub has_all : ByteRange → Tracker → Bool
+has_all sub t = list_all is_present (letters_in sub.start sub.end t.letters)
 
 abbrev pub wait_if_pending : ByteRange → Tracker → Tracker
 wait_if_pending sub t = if lacks sub t then t else with_ticket sub t

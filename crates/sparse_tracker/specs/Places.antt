@@ -1,5 +1,5 @@
 -- Claims and changes of letters, told place by place.
-use Rattle.std.specs.Prelude.{◌≡◌, ◌≢◌, ◌<◌, ◌≤◌, ◌+◌, ℕ, List, length, slice_get, Option, Some, None, ◌↔◌}
+use Rattle.std.specs.Prelude.{◌≡◌, ◌≢◌, ◌<◌, ◌≤◌, ◌+◌, ℕ, List, length, slice_get, Some, None}
 use Rattle.region_ranges.specs.declared.ranges.ByteRange.{ByteRange}
 use Rattle.sparse_tracker.specs.Letters.{Letter, absent, present, Tracker, claimed_run, wait_for_range, wait_if_pending, progress, complete, fail, leave}
 

@@ -3,7 +3,7 @@
 
 ghost use Rattle.std.specs.Prelude.{◌≡◌, ◌<◌, ◌≤◌, ◌+◌, ◌-◌, ℕ, max, OnOk, OnErr, IfOk, IsOk, IfSome, IsSome, option_map, length, true, false, ◌||◌, ◌&&◌, not, ◌++◌, ◌∷◌, [], Some, vec_len, vec_capacity};
 ghost use Rattle.region_ranges.specs.Ranges.{inside, has, first_run, free_below};
-ghost use Rattle.sparse_tracker.specs.Letters.{TrackerView, new_tracker, absent_run, not_behind, wait_for_range, new_claim, wait_if_pending, pending_ticket, progress, complete, fail, leave, status, gap_of, ticket_of, least_unused, ids};
+ghost use Rattle.sparse_tracker.specs.Letters.{TrackerView, new_tracker, absent_run, not_behind, wait_for_range, new_claim, has_all, wait_if_pending, pending_ticket, progress, complete, fail, leave, status, gap_of, ticket_of, least_unused, ids};
 ghost use Rattle.sparse_tracker.specs.Kept.{IsKept, any_free, in_gap};
 
 use crate::gaps::{OpenGap, gap_of, has_pending, move_gap, take_gap, unused_id};
@@ -76,6 +76,14 @@ impl Tracker {
             end: range.end.min(self.len as u64),
         };
         self.taken.first_absent_run(within, from)
+    }
+
+    /// Whether all bytes of the range are present.
+    pub fn has_all(&self, sub: ByteRange) -> bool
+        requires { (sub.start < sub.end) × (sub.end ≤ length self.now.tracker.letters) }
+        ensures { result ≡ has_all sub self.now.tracker }
+    {
+        !has_absent(&self.taken, sub) && !has_pending(&self.gaps, sub)
     }
 
     /// Room for one more claim: the next `wait_for_range` finds all its memory there. It is refused only for want of memory,
@@ -191,6 +199,18 @@ impl Tracker {
             Status::Waiting
         } else {
             Status::Ready
+        }
+    }
+
+    /// The bytes that the ticket waits for.
+    pub fn waits_for(&self, ticket: u32) -> ByteRange
+        requires { IsSome (ticket_of ticket self.now.tracker) }
+        ensures { option_map (λ k. record { start = k.start; end = k.end }) (ticket_of ticket self.now.tracker) ≡ Some result }
+    {
+        let waiting = ticket_of(&self.tickets, ticket);
+        ByteRange {
+            start: waiting.start,
+            end: waiting.end,
         }
     }
 

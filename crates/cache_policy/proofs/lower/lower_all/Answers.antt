@@ -1,12 +1,8 @@
-use Rattle.std.proofs.Common.{arith, ◌≡◌, ◌<◌, ◌≤◌, ◌+◌, ◌∙◌, sym, ap, ℕ, zero, suc, Bool, true, false, List, [], ◌∷◌, ◌++◌, length, take, drop, refl, Option, Some, None, add-one}
-use Rattle.std.specs.Prelude.{slice_get, slice_set, IsSome, cond, filter, min}
-use Rattle.std.proofs.lemmas.List.{length-set}
-use Rattle.freq_lists.specs.Lists.{ListsView, unlink, times, times_in, list_at, without}
-use Rattle.cache_policy.specs.Policy.{PolicyView, tag_at, is_tag}
-use Rattle.cache_policy.specs.Kept.{IsGood}
-use Rattle.cache_policy.specs.Fields.{view_of, IsKept}
+use Rattle.std.proofs.Common.{arith, ◌≡◌, ◌<◌, ◌≤◌, ◌+◌, ◌∙◌, sym, ap, ℕ, suc, Bool, length, refl, add-one}
+use Rattle.std.specs.Prelude.{filter, min}
+use Rattle.freq_lists.specs.Lists.{list_at}
 use Rattle.cache_policy.specs.Ageing.{lower}
-use Rattle.cache_policy.specs.Steps.{goes_down, lowering, lower_from, count_from}
+use Rattle.cache_policy.specs.Steps.{goes_down, lowering, count_from}
 use Rattle.cache_policy.proofs.Lowered.{step, done, begin, count_step, count_done, rise_more, rise_none}
 use Rattle.cache_policy.proofs.Lowers.{length-lowering}
 use Rattle.cache_policy.proofs.Mapped.{views_same}

@@ -1,7 +1,7 @@
-use Rattle.std.proofs.Common.{arith, None, ◌≡◌, ◌<◌, ◌≤◌, ◌-◌, ◌+◌, ◌∙◌, sym, ap, length, ℕ, suc, List, [], ◌∷◌, Option, Some, true, false, refl, add-one}
+use Rattle.std.proofs.Common.{arith, ◌≡◌, ◌<◌, ◌∙◌, sym, ℕ, suc, [], ◌∷◌, Some, true, false, refl, add-one}
 use Rattle.std.specs.Prelude.{slice_get, filter, take}
 use Rattle.std.proofs.lemmas.List.{length-append}
-use Rattle.freq_lists.specs.Lists.{ListsView, list_at, times, unlink}
+use Rattle.freq_lists.specs.Lists.{list_at}
 use Rattle.cache_policy.specs.Steps.{lowering, goes_down}
 use Rattle.cache_policy.proofs.Lowered.{take_whole}
 use Rattle.cache_policy.proofs.Lowers.{there, none_at, some_at, goes_one, stays_one, kept, lowered, next_is, times_unlink, length-unlink, length-lowering}

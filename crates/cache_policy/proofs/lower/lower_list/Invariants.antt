@@ -1,6 +1,6 @@
-use Rattle.std.proofs.Common.{◌≡◌, ◌<◌, ◌≤◌, ◌-◌, ◌+◌, length, suc}
+use Rattle.std.proofs.Common.{◌≡◌, ◌≤◌, ◌-◌, length, suc}
 use Rattle.std.specs.Prelude.{slice_get, filter, take}
-use Rattle.freq_lists.specs.Lists.{ListsView, list_at}
+use Rattle.freq_lists.specs.Lists.{list_at}
 use Rattle.cache_policy.specs.Steps.{lowering, goes_down}
 use Rattle.cache_policy.proofs.lower.lower_list.Given as goal
 

@@ -1,10 +1,4 @@
-use Rattle.std.proofs.Common.{arith, ◌≡◌, ◌<◌, ◌≤◌, ◌+◌, ◌∙◌, sym, ap, ℕ, zero, suc, Bool, true, false, List, [], ◌∷◌, ◌++◌, length, take, drop, refl, Option, Some, None, add-one}
-use Rattle.std.specs.Prelude.{slice_get, slice_set, IsSome, cond}
-use Rattle.std.proofs.lemmas.List.{length-set}
-use Rattle.freq_lists.specs.Lists.{ListsView, unlink, times, times_in, list_at, without}
-use Rattle.cache_policy.specs.Policy.{PolicyView, tag_at, is_tag}
-use Rattle.cache_policy.specs.Kept.{IsGood}
-use Rattle.cache_policy.specs.Fields.{view_of, IsKept}
+use Rattle.std.proofs.Common.{arith, ◌∙◌, sym, add-one}
 use Rattle.cache_policy.proofs.Candidates.{after_some, after_none}
 use Rattle.cache_policy.proofs.Mapped.{not_listed}
 use Rattle.cache_policy.proofs.order.behind.Goals as goal

@@ -1,4 +1,4 @@
-use Rattle.std.proofs.Common.{◌≡◌, ◌∙◌, sym, ap, Some}
+use Rattle.std.proofs.Common.{◌∙◌, sym, ap, Some}
 use Rattle.std.specs.Prelude.{◌==◌}
 use Rattle.sparse_tracker.proofs.Finds.{found_at, without_gap_at}
 use Rattle.sparse_tracker.proofs.gaps.take_gap.Goals as goal

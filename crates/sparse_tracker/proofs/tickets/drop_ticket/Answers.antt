@@ -1,4 +1,4 @@
-use Rattle.std.proofs.Common.{◌≡◌, ◌∙◌}
+use Rattle.std.proofs.Common.{◌∙◌}
 use Rattle.sparse_tracker.proofs.Finds.{without_ticket_at}
 use Rattle.sparse_tracker.proofs.tickets.drop_ticket.Goals as goal
 

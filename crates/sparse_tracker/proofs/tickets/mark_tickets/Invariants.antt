@@ -1,4 +1,4 @@
-use Rattle.std.proofs.Common.{◌≡◌, ◌++◌, take, drop, length}
+use Rattle.std.proofs.Common.{◌≡◌, ◌++◌, take, drop}
 use Rattle.std.specs.Prelude.{map}
 use Rattle.sparse_tracker.specs.Kept.{mark}
 use Rattle.sparse_tracker.proofs.tickets.mark_tickets.Given as goal

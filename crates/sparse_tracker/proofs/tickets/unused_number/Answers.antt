@@ -1,4 +1,4 @@
-use Rattle.std.proofs.Common.{arith, ◌≡◌, ◌<◌, ◌-◌, ◌+◌, length, sym, ◌∙◌}
+use Rattle.std.proofs.Common.{arith, ◌≡◌, ◌-◌, ◌+◌, length, sym, ◌∙◌}
 use Rattle.sparse_tracker.specs.Letters.{numbers}
 use Rattle.sparse_tracker.proofs.Ties.{least_step}
 use Rattle.sparse_tracker.proofs.tickets.unused_number.Goals as goal

@@ -1,11 +1,7 @@
-use Rattle.std.proofs.Common.{arith, ◌≡◌, ◌<◌, ◌≤◌, ◌+◌, ◌∙◌, sym, ap, ℕ, zero, suc, Bool, true, false, List, [], ◌∷◌, ◌++◌, length, take, drop, refl, Option, Some, None, add-one}
-use Rattle.std.specs.Prelude.{slice_get, slice_set, IsSome, cond}
+use Rattle.std.proofs.Common.{arith, ◌≡◌, ◌<◌, ◌∙◌, sym, ap, ℕ, Bool, true, false, length, Option, None}
 use Rattle.std.proofs.lemmas.List.{length-set}
-use Rattle.freq_lists.specs.Lists.{ListsView, unlink, times, times_in, list_at, without}
-use Rattle.cache_policy.specs.Policy.{PolicyView, tag_at, is_tag}
-use Rattle.cache_policy.specs.Kept.{IsGood}
-use Rattle.cache_policy.specs.Fields.{view_of, IsKept}
-use Rattle.cache_policy.specs.Policy.{is_of, regions_from, leave, leave_all, clear}
+use Rattle.cache_policy.specs.Policy.{PolicyView, tag_at}
+use Rattle.cache_policy.specs.Policy.{is_of, regions_from, clear}
 use Rattle.cache_policy.proofs.Clears.{region_goes, region_stays, leaving_all, cleared_tag, some_of, drop_end}
 use Rattle.cache_policy.proofs.policy.Policy.clear.Goals as goal
 use Rattle.cache_policy.proofs.policy.Policy.clear.Goals.{then-has_key_of, else-has_key_of}

@@ -1,10 +1,6 @@
-use Rattle.std.proofs.Common.{arith, ◌≡◌, ◌<◌, ◌≤◌, ◌+◌, ◌∙◌, sym, ap, ℕ, zero, suc, Bool, true, false, List, [], ◌∷◌, ◌++◌, length, take, drop, refl, Option, Some, None, add-one}
-use Rattle.std.specs.Prelude.{slice_get, slice_set, IsSome, cond}
+use Rattle.std.proofs.Common.{arith, ◌∙◌, None}
 use Rattle.std.proofs.lemmas.List.{length-set}
-use Rattle.freq_lists.specs.Lists.{ListsView, unlink, times, times_in, list_at, without}
-use Rattle.cache_policy.specs.Policy.{PolicyView, tag_at, is_tag}
-use Rattle.cache_policy.specs.Kept.{IsGood}
-use Rattle.cache_policy.specs.Fields.{view_of, IsKept}
+use Rattle.cache_policy.specs.Fields.{view_of}
 use Rattle.cache_policy.proofs.Good.{region_is, room_leaving, good_leave}
 use Rattle.cache_policy.proofs.Tags.{set_at}
 use Rattle.cache_policy.proofs.policy.Policy.leave.Goals as goal

@@ -1,15 +1,10 @@
-use Rattle.std.proofs.Common.{rules, arith, ◌≡◌, ◌<◌, ◌≤◌, ◌+◌, ◌∙◌, sym, ap, ℕ, zero, suc, Bool, true, false, List, [], ◌∷◌, ◌++◌, length, take, drop, refl, Option, Some, None, add-one}
-use Rattle.std.specs.Prelude.{slice_get, slice_set, IsSome, cond, replicate, vec_capacity}
+use Rattle.std.proofs.Common.{rules, arith, ◌≡◌, ◌≤◌, ◌∙◌, sym, ap, ℕ, List, [], length, Option, None}
+use Rattle.std.specs.Prelude.{replicate, vec_capacity}
 use Rattle.std.specs.List.{range_with_len}
-use Rattle.std.proofs.lemmas.List.{length-set}
-use Rattle.freq_lists.specs.Lists.{ListsView, unlink, times, times_in, list_at, without}
-use Rattle.cache_policy.specs.Policy.{PolicyView, tag_at, is_tag}
-use Rattle.cache_policy.specs.Kept.{IsGood}
-use Rattle.cache_policy.specs.Fields.{view_of, IsKept}
+use Rattle.freq_lists.specs.Lists.{ListsView}
 use Rattle.std.proofs.lemmas.List.{length-replicate}
 use Rattle.cache_policy.proofs.Good.{good_made}
 use Rattle.cache_policy.proofs.Places.{range_push}
-use Rattle.cache_policy.proofs.Tags.{none_only}
 use Rattle.cache_policy.proofs.policy.Policy.new.Goals as goal
 
 pub invariant_of-result : goal.invariant_of-result

@@ -1,8 +1,3 @@
-use Rattle.std.proofs.Common.{arith, ◌≡◌, ◌∙◌, sym, ap, ℕ, take, List, length, ◌≤◌}
-use Rattle.std.specs.Prelude.{map, Bool, min}
-use Rattle.region_ranges.specs.Ranges.{first_run, free_below}
-use Rattle.sparse_tracker.specs.Letters.{TrackerView, Letter, is_absent}
-use Rattle.sparse_tracker.specs.Kept.{letters_of, letter_at}
 use Rattle.sparse_tracker.proofs.Ties.{flags_min}
 use Rattle.sparse_tracker.proofs.tracker.Tracker.absent_within.Goals as goal
 

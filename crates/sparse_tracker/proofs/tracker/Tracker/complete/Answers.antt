@@ -1,4 +1,4 @@
-use Rattle.std.proofs.Common.{arith, ◌≤◌, ap}
+use Rattle.std.proofs.Common.{arith, ap}
 use Rattle.sparse_tracker.proofs.Stores.{bounds_of, stored_moved, completed, viewed}
 use Rattle.sparse_tracker.proofs.tracker.Tracker.complete.Goals as goal
 

@@ -1,5 +1,5 @@
-use Rattle.std.proofs.Common.{arith, ◌≡◌, ◌≤◌, length}
-use Rattle.sparse_tracker.specs.Kept.{letters_of, letter_at, IsKept}
+use Rattle.std.proofs.Common.{arith, ◌≡◌, length}
+use Rattle.sparse_tracker.specs.Kept.{letters_of, letter_at}
 use Rattle.sparse_tracker.proofs.Ties.{length-letters}
 use Rattle.sparse_tracker.proofs.Lessons.{good}
 use Rattle.sparse_tracker.proofs.tracker.Tracker.lesson.Goals as goal

@@ -1,6 +1,4 @@
-use Rattle.std.proofs.Common.{◌≡◌, ◌∙◌, ap, [], List}
-use Rattle.sparse_tracker.specs.declared.gaps.OpenGap.{OpenGap}
-use Rattle.sparse_tracker.specs.declared.tickets.Ticket.{Ticket}
+use Rattle.std.proofs.Common.{◌≡◌, ◌∙◌, ap, []}
 use Rattle.sparse_tracker.specs.Letters.{TrackerView}
 use Rattle.sparse_tracker.proofs.Stores.{viewed, renewed}
 use Rattle.sparse_tracker.proofs.tracker.Tracker.renew.Goals as goal

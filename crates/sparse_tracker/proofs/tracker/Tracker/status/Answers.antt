@@ -1,5 +1,4 @@
-use Rattle.std.proofs.Common.{arith, ◌≡◌, ◌≤◌, ◌<◌, ◌∙◌, sym, ap, true, false, refl}
-use Rattle.region_ranges.specs.declared.ranges.ByteRange.{ByteRange}
+use Rattle.std.proofs.Common.{arith, ◌≡◌, ◌∙◌, sym, false}
 use Rattle.sparse_tracker.specs.declared.status.Status.TheVariants.{Ready, Waiting, Failed, Open}
 use Rattle.sparse_tracker.specs.Letters.{letters_in}
 use Rattle.sparse_tracker.specs.Kept.{letters_of, any_free}

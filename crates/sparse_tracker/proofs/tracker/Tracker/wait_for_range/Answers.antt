@@ -1,10 +1,8 @@
-use Rattle.std.proofs.Common.{arith, ◌≡◌, ◌≤◌, ◌+◌, ◌-◌, ◌∙◌, sym, ap, ℕ, List, [], ◌∷◌, ◌++◌, length, Option, Some, None, max, refl}
-use Rattle.std.specs.Prelude.{vec_len, vec_capacity}
-use Rattle.region_ranges.specs.declared.ranges.ByteRange.{ByteRange}
-use Rattle.sparse_tracker.specs.Letters.{TrackerView, Tracker, Letter, claimed_run, wait_for_range, new_claim, with_ticket, open_gap}
+use Rattle.std.proofs.Common.{arith, ◌≡◌, ◌≤◌, ◌∙◌, sym, ap, length, max}
+use Rattle.sparse_tracker.specs.Letters.{TrackerView, Tracker, wait_for_range, new_claim}
 use Rattle.sparse_tracker.specs.Kept.{letter_at, letters_of}
 use Rattle.sparse_tracker.proofs.Ties.{seen, claimed_is, waited_none, waited_some, claimed, length-letters}
-use Rattle.sparse_tracker.proofs.Stores.{viewed, viewed_same, stored_waited, stored_opened, waited_claim_none, waited_claim_some}
+use Rattle.sparse_tracker.proofs.Stores.{viewed_same, stored_waited, stored_opened, waited_claim_none, waited_claim_some}
 use Rattle.sparse_tracker.proofs.tracker.Tracker.wait_for_range.Goals as goal
 
 pub returns-in-None-clause-ok : goal.returns-in-None-clause-ok

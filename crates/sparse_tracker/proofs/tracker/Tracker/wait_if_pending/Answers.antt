@@ -1,8 +1,5 @@
-use Rattle.std.proofs.Common.{arith, ◌≡◌, ◌≤◌, ◌<◌, ◌∙◌, sym, ap, true, false, refl}
-use Rattle.std.specs.Prelude.{length}
-use Rattle.std.specs.List.{list_any}
-use Rattle.sparse_tracker.specs.Letters.{Letter, TrackerView, letters_in, is_absent}
-use Rattle.sparse_tracker.specs.Kept.{letters_of, letter_at, any_free}
+use Rattle.std.proofs.Common.{arith, ◌∙◌, sym, ap}
+use Rattle.sparse_tracker.specs.Kept.{letter_at}
 use Rattle.sparse_tracker.proofs.Ties.{seen, length-letters}
 use Rattle.sparse_tracker.proofs.Looks.{lacks_is}
 use Rattle.sparse_tracker.proofs.Stores.{stored_waited, viewed, joined_none, joined_some, asked_none, asked_some}
