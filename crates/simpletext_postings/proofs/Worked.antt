@@ -1,8 +1,8 @@
 -- Worked postings texts, computed by the definitions.
-use Rattle.std.proofs.Common.{◌≡◌, [], ◌∷◌, Some, None, Ok, Err, refl}
+use Rattle.std.proofs.Common.{◌≡◌, [], ◌∷◌, Ok, Err, refl}
 use Rattle.std.specs.Prelude.{codes}
 use Rattle.text_lines.specs.Lines.{cut}
-use Rattle.simpletext_postings.specs.Postings.{postings, built_rows, form_of, indented_form}
+use Rattle.simpletext_postings.specs.Postings.{postings, form_of, indented_form}
 
 -- the whole text
 pub whole : postings (codes "field body\n  term fox\n    doc 0\n      freq 1\n      pos 1\n    doc 2\n      freq 1\n      pos 0\n  term red\n    doc 0\n      freq 1\n      pos 0\nEND\nchecksum 00000000000000000000\n") 3 ≡ Ok (record { field = codes "body"; term = codes "fox"; doc = 0; positions = 1 ∷ [] } ∷ record { field = codes "body"; term = codes "fox"; doc = 2; positions = 0 ∷ [] } ∷ record { field = codes "body"; term = codes "red"; doc = 0; positions = 0 ∷ [] } ∷ [])
@@ -213,28 +213,3 @@ field_after_end = refl
 pub backslash_last : postings (codes "field f\nEND\\") 1 ≡ Err 8
 unfolding cut form_of indented_form
 backslash_last = refl
-
--- built lines alone
-pub built_whole : built_rows (codes "field body\n  term fox\n    doc 0\n      freq 1\n    doc 2\n      freq 1\n  term red\n    doc 0\n      freq 1\nEND\nchecksum 00000000000000000000\n") 3 ≡ Some (record { field = codes "body"; term = codes "fox"; doc = 0; positions = [] } ∷ record { field = codes "body"; term = codes "fox"; doc = 2; positions = [] } ∷ record { field = codes "body"; term = codes "red"; doc = 0; positions = [] } ∷ [])
-unfolding cut form_of indented_form
-built_whole = refl
-
--- an escaped newline
-pub built_escaped : built_rows (codes "field f\n  term a\\\nb\n    doc 0\nEND\nchecksum 00000000000000000000\n") 1 ≡ Some (record { field = codes "f"; term = 97 ∷ 10 ∷ 98 ∷ []; doc = 0; positions = [] } ∷ [])
-unfolding cut form_of indented_form
-built_escaped = refl
-
--- positions are not built
-pub not_built : built_rows (codes "field body\n  term fox\n    doc 0\n      freq 1\n      pos 1\n    doc 2\n      freq 1\n      pos 0\n  term red\n    doc 0\n      freq 1\n      pos 0\nEND\nchecksum 00000000000000000000\n") 3 ≡ None
-unfolding cut form_of indented_form
-not_built = refl
-
--- nor lines that are passed over
-pub not_built_passed : built_rows (codes "field body\n  term fox\n    doc 0\n      freq 1\n    doc 2\n      freq 1\n  term red\n    doc 0\n      freq 1\n    skipList \nEND\nchecksum 00000000000000000000\n") 3 ≡ None
-unfolding cut form_of indented_form
-not_built_passed = refl
-
--- a line that is not allowed
-pub not_allowed : built_rows (codes "field f\n  term b\n    doc 0\n  term b\n    doc 0\nEND\nchecksum 00000000000000000000\n") 1 ≡ None
-unfolding cut form_of indented_form
-not_allowed = refl

@@ -1,3 +1,9 @@
+pub mod Forms
 pub mod Postings
 pub mod Rows
-pub mod Steps
+pub mod Written
+pub mod Terms
+pub mod Places
+pub mod Shapes
+pub mod Openings
+pub mod Entries

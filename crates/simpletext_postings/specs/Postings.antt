@@ -1,23 +1,16 @@
 -- What a postings text says: its rows, or the place of the first line that is not allowed after those before it.
-use Rattle.std.specs.Prelude.{ℕ, ◌+◌, ◌&&◌, ◌||◌, ◌==◌, ◌^◌, List, [], ◌∷◌, ◌++◌, length, drop, map, Bool, true, false, not, nat_lt, nat_le, nat_eq, Option, Some, None, is_some, Result, Ok, Err, if◌then◌else◌, codes}
+use Rattle.std.specs.Prelude.{ℕ, ◌+◌, ◌&&◌, ◌||◌, ◌==◌, List, [], ◌∷◌, ◌++◌, drop, Bool, true, false, not, nat_lt, nat_le, Option, Some, None, is_some, Result, Ok, Err, if◌then◌else◌, codes}
 use Rattle.std.specs.Ordering.{nat_cmp, is_lt}
 use Rattle.std.specs.Cmp.Lexicographic.{slice_cmp}
-use Rattle.std.specs.List.{starts_with, list_all, list_any}
+use Rattle.std.specs.List.{list_any}
 use Rattle.std.specs.Str.{bytes_eq}
-use Rattle.std.specs.Char.{is_ascii_digit, digit_value}
-use Rattle.std.specs.Int.Digits.{number_from_digits}
 use Rattle.text_lines.specs.Lines.{Taken, cut}
-use Rattle.simpletext_postings.specs.declared.form.Form.{Form}
-use Rattle.simpletext_postings.specs.declared.form.Form.TheVariants.{Field, Term, Doc, Freq, Pos, StartOffset, EndOffset, Payload, End, Checksum, Indented, Unknown}
+use Rattle.text_lines.specs.Words.{number, begins, is_checksum}
+use Rattle.simpletext_postings.specs.Forms.{Form}
+use Rattle.simpletext_postings.specs.Forms.{Field, Term, Doc, Freq, Pos, StartOffset, EndOffset, Payload, End, Checksum, Indented, Unknown}
 use Rattle.simpletext_postings.specs.declared.rows.Row.{Row}
 
 -- ---- the form of a line, by its content
-
--- 1 to 10 digits with a value of at most 2147483647
-abbrev pub number : List ℕ → Option ℕ
-number s =
-    if nat_lt 0 (length s) && nat_le (length s) 10 && list_all is_ascii_digit s && nat_lt (number_from_digits 10 (map digit_value s)) (2 ^ 31)
-    then Some (number_from_digits 10 (map digit_value s)) else None
 
 -- a line that goes on with a number, or of no form where it does not
 abbrev pub doc_of : Option ℕ → Form
@@ -39,13 +32,6 @@ start_of (Some n) = StartOffset
 abbrev pub end_of : Option ℕ → Form
 end_of None = Unknown
 end_of (Some n) = EndOffset
-
-abbrev pub begins : List ℕ → List ℕ → Bool
-begins mark s = starts_with nat_eq s mark
-
--- `checksum ` and exactly 20 digits
-abbrev pub is_checksum : List ℕ → Bool
-is_checksum s = begins (codes "checksum ") s && (length s == 29) && list_all is_ascii_digit (drop 9 s)
 
 -- a line that begins with four blanks
 unfoldable pub indented_form : List ℕ → Form
@@ -257,31 +243,3 @@ rows_of (Err at) = Err at
 -- the rows of a postings text of a segment of `docs` documents, or the place of its first line that is not allowed
 abbrev pub postings : List ℕ → ℕ → Result (List Row) ℕ
 postings text docs = rows_of (forms_after docs [] 0 (cut text).lines (cut text).tail)
-
--- ---- texts of built lines
-
--- the forms that are read so far: no positions, offsets, payloads and no lines that are passed over
-abbrev pub is_built_form : Form → Bool
-is_built_form (Field f) = true
-is_built_form (Term t) = true
-is_built_form (Doc d) = true
-is_built_form (Freq n) = true
-is_built_form End = true
-is_built_form Checksum = true
-is_built_form _ = false
-
-abbrev pub is_built_line : Taken → Bool
-is_built_line l = is_built_form (form_of l.content)
-
--- whether each line that ends is of a built form
-abbrev pub is_built : List ℕ → Bool
-is_built text = list_all is_built_line (cut text).lines
-
-abbrev pub ok_rows : Result (List Row) ℕ → Option (List Row)
-ok_rows (Ok rows) = Some rows
-ok_rows (Err at) = None
-
--- the rows of a text that consists of built lines, each allowed after those before it, up to its checksum line; else
--- None
-abbrev pub built_rows : List ℕ → ℕ → Option (List Row)
-built_rows text docs = if is_built text then ok_rows (postings text docs) else None

@@ -1,5 +1,5 @@
 -- Rows of postings: what a list of them keeps, and the documents of a term.
-use Rattle.std.specs.Prelude.{ℕ, ◌+◌, ◌<◌, ◌≤◌, ◌==◌, ◌&&◌, ◌||◌, ◌^◌, List, [], ◌∷◌, length, map, filter, Bool, true, not, nat_lt, nat_le, if◌then◌else◌}
+use Rattle.std.specs.Prelude.{ℕ, ◌+◌, ◌<◌, ◌≤◌, ◌==◌, ◌&&◌, ◌||◌, ◌^◌, List, [], ◌∷◌, length, Bool, true, not, nat_lt, nat_le, if◌then◌else◌}
 use Rattle.std.specs.Ordering.{nat_cmp, is_lt}
 use Rattle.std.specs.Cmp.Lexicographic.{slice_cmp}
 use Rattle.std.specs.List.{list_all, list_any}
@@ -16,13 +16,6 @@ pub record PostingsRows : Type 0 where
 
 abbrev pub is_of : List ℕ → List ℕ → Row → Bool
 is_of field term r = bytes_eq r.field field && bytes_eq r.term term
-
-abbrev pub doc_number : Row → ℕ
-doc_number r = r.doc
-
--- the documents of the rows of a (field, term), in order
-abbrev pub docs_with : List ℕ → List ℕ → List Row → List ℕ
-docs_with field term rows = map doc_number (filter (is_of field term) rows)
 
 -- whether a document has a term in a field
 abbrev pub has_row : List ℕ → List ℕ → List Row → ℕ → Bool

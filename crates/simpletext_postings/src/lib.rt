@@ -1,16 +1,26 @@
 // The postings of a segment, read from a text after Lucene SimpleText: which documents have which term of which field.
 #![tactic(auto)]
 
-mod form;
+mod collect;
+mod dictionary;
+mod entries;
+mod lines;
+mod opening;
+mod places;
 mod positions;
-mod reading;
+mod posting;
 mod rows;
-mod state;
-mod whole;
+mod shape;
+mod table;
+mod writing;
 
+pub use dictionary::Dictionary;
 pub use positions::Positions;
+pub use posting::Posting;
 pub use rows::{Row, Rows};
-pub use whole::{WholeError, read_whole};
+pub use writing::write;
 
 #[cfg(test)]
 mod tests;
+#[cfg(test)]
+mod writing_tests;

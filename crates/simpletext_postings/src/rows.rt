@@ -1,6 +1,6 @@
 // Rows of postings: which documents have which term of which field.
-ghost use Rattle.std.specs.Prelude.{◌≡◌, ◌↔◌, IsTrue, true, ◌<◌, ◌++◌, ◌∷◌, [], length, IfOk, OnOk, OnErr, slice_get, Some};
-ghost use Rattle.simpletext_postings.specs.Rows.{are_rows, docs_with, is_of, RiseWithin};
+ghost use Rattle.std.specs.Prelude.{◌≡◌, ◌↔◌, IsTrue, true, ◌<◌, ◌++◌, ◌∷◌, [], length, OnOk, OnErr, slice_get, Some};
+ghost use Rattle.simpletext_postings.specs.Rows.{are_rows};
 
 use crate::Positions;
 use byte_text::Text;
@@ -37,23 +37,6 @@ impl Model for Rows {
     ghost view = { λ r. record { docs = r.docs; rows = r.items.items } };
 
     ghost invariant = { λ r. are_rows r.docs r.items.items ≡ true };
-}
-
-fn numbers_of(
-    alloc: Global,
-    rows: &[Row],
-    field: &[u8],
-    term: &[u8],
-) -> Result<Vec<u32>, AllocError>
-    ensures { IfOk result (λ v. v.items ≡ docs_with field.now term.now rows.now) }
-{
-    let mut found = Vec::new(alloc);
-    for row in rows {
-        if row.field.as_bytes() == field && row.term.as_bytes() == term {
-            found.push(row.doc)?;
-        }
-    }
-    Ok(found)
 }
 
 impl Rows {
@@ -100,20 +83,5 @@ impl Rows {
         ensures allowed { are_rows self.now.docs self.now.rows ≡ true }
     {
         &self.items[i]
-    }
-
-    /// The numbers of the documents that have this term in this field, in order: they rise, and
-    /// each is below the number of documents.
-    pub fn documents_with(
-        &self,
-        alloc: Global,
-        field: &[u8],
-        term: &[u8],
-    ) -> Result<Vec<u32>, AllocError>
-        ensures value { IfOk result (λ v. v.items ≡ docs_with field.now term.now self.now.rows) }
-        ensures rising { IfOk result (λ v. RiseWithin 0 self.now.docs v.items) }
-    {
-        let found = numbers_of(alloc, &self.items, field, term)?;
-        Ok(found)
     }
 }
