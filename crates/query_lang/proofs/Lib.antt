@@ -1,0 +1,10 @@
+mod Rows
+pub mod ListLemmas
+pub mod Only
+pub mod Forms
+pub mod Printed
+pub mod Items
+pub mod Json
+pub mod Texts
+pub mod Sizes
+pub mod Back
