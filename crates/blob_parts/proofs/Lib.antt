@@ -6,3 +6,4 @@ pub mod Named
 pub mod Loaded
 pub mod Resolved
 pub mod Tabled
+pub mod Asked

@@ -1,12 +1,12 @@
 -- What was taken, read by read.
 use Rattle.std.proofs.Common.{◌≡◌, ℕ, zero, suc, ◌+◌, ◌-◌, ◌≤◌, List, [], ◌∷◌, ◌++◌, Option, Some, None, map, take, drop, refl, ap, sym, ◌∙◌, arith}
 use Rattle.std.specs.List.{range_with_len}
-use Rattle.std.proofs.lemmas.Grind.{flat_map-append}
-use Rattle.std.proofs.lemmas.List.{append-nil, append_assoc, drop-drop, map-append}
+use Rattle.std.proofs.lemmas.List.{drop-drop, map-append}
 use Rattle.std.proofs.lemmas.List.FromFn.{take-map-range_with_len}
 use Rattle.std.proofs.Math.Seq.{take-add}
-use Rattle.blob_parts.specs.Content.{places, place_in, spread, spread_one, slice_of}
+use Rattle.blob_parts.specs.Content.{places, place_in, slice_of}
 use Rattle.blob_parts.specs.Takes.{Took}
+use Rattle.blob_parts.specs.Reading.{took_none, took_both}
 
 -- numbers in order, but the first of them
 range_rest : (a n k : ℕ) → k ≤ n → drop k (range_with_len a n) ≡ range_with_len (a + k) (n - k)
@@ -30,21 +30,6 @@ places_slice blob size from n fits =
     let numbers = rw e at rest in
     ap (λ r. take n r) (map_drop (place_in blob) from (range_with_len 0 size) ∙ ap (λ r. map (place_in blob) r) numbers)
     ∙ take-map-range_with_len (place_in blob) from (size - from) n (omega arith)
-
--- nothing is taken yet
-pub took_none : (t : Option (List (ℕ × ℕ × ℕ))) (asked : List (ℕ × ℕ)) → Took t t (take 0 asked)
-took_none None asked = refl
-took_none (Some before) asked = ([], ap Some (sym (append-nil before)), refl)
-
--- one call after another
-pub took_both : (t u v : Option (List (ℕ × ℕ × ℕ))) (first then : List (ℕ × ℕ)) → Took t u first → Took u v then → Took t v (first ++ then)
-took_both None u v first then a b = rw a at b
-took_both (Some before) u v first then a b =
-    let own = rw a.1 at b in (
-      a.0 ++ own.0,
-      own.1 ∙ ap Some (append_assoc before a.0 own.0),
-      flat_map-append spread_one a.0 own.0 ∙ ap (λ r. r ++ spread own.0) a.2 ∙ ap (λ r. first ++ r) own.2,
-    )
 
 -- the next places behind the first ones
 pub slice_more : {X : Type 0} (xs : List X) (at done n : ℕ) → slice_of xs at done ++ slice_of xs (at + done) n ≡ slice_of xs at (done + n)

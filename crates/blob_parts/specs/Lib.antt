@@ -5,3 +5,7 @@ pub mod Takes
 pub mod Loads
 pub mod Resolving
 pub mod Example
+pub mod Pieces
+pub mod Going
+pub mod Errors
+pub mod Reading

@@ -1,11 +1,18 @@
 // Manifests loaded and files read over an archive that tells.
-ghost use Rattle.std.specs.Prelude.{◌≡◌, ◌<◌, IfOk, true, ◌++◌, ◌∷◌, []};
+ghost use Rattle.std.specs.Prelude.{◌≡◌, ◌<◌, ◌≤◌, ℕ, List, IfOk, OnOk, IsTrue, true, length, ◌++◌, ◌∷◌, []};
 ghost use Rattle.byte_text.specs.Names.{is_name};
+ghost use Rattle.blob_parts.specs.Content.{content, slice_of};
 ghost use Rattle.blob_parts.specs.Example.{example};
+ghost use Rattle.blob_parts.specs.Tables.{file_length};
+ghost use Rattle.blob_parts.specs.Takes.{Took};
+ghost use Rattle.directory_input.specs.Reads as reads;
 
-use crate::{LoadError, PartTable, load, read_into, resolve};
+use crate::many_parts::OneByteParts;
+use crate::{DirectBytes, LoadError, PartTable, ResolveError, fetch, load, read_into, resolve};
 use byte_text::{Blobs, Name, Text};
-use cache_outside::{Archive, MemSource};
+use cache_outside::{Archive, BlobSource, MemSource, Untold, manifests_in};
+use directory_input::{BytesError, FileBytes};
+use mount_manifest::Manifest;
 use std::alloc::{AllocError, Global};
 use std::process::Abort;
 use std::test::Fail;
@@ -126,5 +133,137 @@ fn files_are_read(rt: HostRuntime) -> Result<(), Fail> {
             );
         }
     }
+    Ok(())
+}
+
+/// The table of the example's only manifest.
+fn example_table(
+    rt: &impl Abort,
+    alloc: Global,
+    source: &mut MemSource<Example>,
+) -> Option<PartTable<Example>> {
+    let Ok((number, manifest)) = load::<Example, MemSource<Example>>(alloc, source, "mount-t")
+    else {
+        assert!(rt; false);
+        return None;
+    };
+    resolve::<Example, MemSource<Example>>(alloc, source, number, &manifest).ok()
+}
+
+/// The first bytes of a file, through the bound alone.
+fn front<B: FileBytes>(bytes: &mut B, file: u32, out: &mut [u8]) -> Result<(), BytesError>
+    requires file { file < B.count bytes.old }
+    requires inside { length out.old ≤ B.length_of bytes.old file }
+    ensures told { IsTrue (B.tells bytes.old) → OnOk result (out.new ≡ reads.slice_of 0 (length out.old) (B.bytes bytes.old file)) }
+    ensures goes { B.goes_on bytes.old bytes.new }
+{
+    bytes.read(file, 0, out)
+}
+
+/// The first bytes of a file, by someone who lends its source and table, and learns what became of the source.
+fn lent_front<A: Archive, S: BlobSource<A>>(
+    source: &mut S,
+    table: &PartTable<A>,
+    file: u32,
+    out: &mut [u8],
+) -> Result<(), BytesError>
+    requires file { file < length table.now.files }
+    requires inside { length out.old ≤ file_length table.now file }
+    ensures told { IsTrue A.tells → OnOk result (out.new ≡ slice_of (content A.blobs table.now.number file) 0 (length out.old)) }
+    ensures same { S.which source.new ≡ S.which source.old }
+    ensures later { S.faults source.old ≤ S.faults source.new }
+    ensures taken { IsTrue A.tells → (places : List (ℕ × ℕ)) × Took (S.taken source.old) (S.taken source.new) places }
+{
+    let mut bytes = DirectBytes::<A, S>::new(source, table);
+    front(&mut bytes, file, out)
+}
+
+#[test]
+fn pieces_and_direct_reads(rt: HostRuntime) -> Result<(), Fail> {
+    let alloc = rt.alloc();
+    for step in [1, 7] {
+        assert!(rt; step > 0);
+        let mut source = source(alloc, step)?;
+        let Some(table) = example_table(&rt, alloc, &mut source) else {
+            assert!(rt; false);
+            return Ok(());
+        };
+        assert!(rt; table.files() > 1 && table.length(1) == 6);
+        let piece = fetch(alloc, &mut source, &table, 1, 2, 3);
+        assert!(rt;
+            matches!(&piece, Ok(p) if p.bytes() == b"cde".as_slice() && p.at() == 2 && p.file().file == 1)
+        );
+        let mut out = [0; 4];
+        assert_eq!(rt; lent_front(&mut source, &table, 1, &mut out), Ok(()));
+        assert_eq!(rt; out.as_slice(), b"abcd".as_slice());
+        let bytes = DirectBytes::<Example, MemSource<Example>>::new(&mut source, &table);
+        assert_eq!(rt; bytes.len(1), 6);
+    }
+    Ok(())
+}
+
+/// The refusal of a manifest's parts over blobs of these names and sizes.
+fn refusal(
+    rt: &impl Abort,
+    alloc: Global,
+    manifest: &str,
+    parts: &[(&str, usize)],
+) -> Result<Option<ResolveError>, AllocError> {
+    let mut blobs = Blobs::new(alloc);
+    for (name, size) in parts {
+        if let Some(name) = Name::read(alloc, name.as_bytes())? {
+            blobs.push((name, Text::from_vec(vec![in alloc; 0; *size]?)))?;
+        }
+    }
+    assert_eq!(rt; manifests_in(&blobs), 0);
+    let mut source = MemSource::<Untold>::new(alloc, blobs, 4096, Vec::new(alloc));
+    let Ok(manifest) = Manifest::read(alloc, manifest.as_bytes()) else {
+        assert!(rt; false);
+        return Ok(None);
+    };
+    Ok(resolve::<Untold, MemSource<Untold>>(alloc, &mut source, 0, &manifest).err())
+}
+
+#[test]
+fn parts_are_refused(rt: HostRuntime) -> Result<(), Fail> {
+    let alloc = rt.alloc();
+    let cut =
+        "{\"version\":1,\"files\":[{\"name\":\"__a\",\"physical_name\":\"_0.pst\",\"length\":172,\"part_size\":100}],\"segments\":[]}";
+    for size in [100, 99] {
+        let missing = refusal(&rt, alloc, cut, &[("__a.part0", size)])?;
+        assert!(rt;
+            matches!(&missing, Some(ResolveError::Missing { name }) if name.as_str() == "__a.part1")
+        );
+    }
+    let whole =
+        "{\"version\":1,\"files\":[{\"name\":\"__b\",\"physical_name\":\"big.bin\",\"length\":10000}],\"segments\":[]}";
+    let short = refusal(&rt, alloc, whole, &[("__b", 9999)])?;
+    assert!(rt;
+        matches!(&short, Some(ResolveError::PartSize { name, told: 9999, wanted: 10000 }) if name.as_str() == "__b")
+    );
+    assert!(rt; refusal(&rt, alloc, whole, &[("__b", 10000)])?.is_none());
+    Ok(())
+}
+
+/// As many parts as a manifest may have. Built by `rt test` it runs in a third of a second; `rt try` gives up on it.
+#[test]
+fn most_parts(rt: HostRuntime) -> Result<(), Fail> {
+    let alloc = rt.alloc();
+    let text =
+        "{\"version\":1,\"files\":[{\"name\":\"__a\",\"physical_name\":\"a\",\"length\":1048576,\"part_size\":1}],\"segments\":[]}";
+    let Ok(manifest) = Manifest::read(alloc, text.as_bytes()) else {
+        assert!(rt; false);
+        return Ok(());
+    };
+    let mut source = OneByteParts;
+    let Ok(table) = resolve::<Untold, OneByteParts>(alloc, &mut source, 0, &manifest) else {
+        assert!(rt; false);
+        return Ok(());
+    };
+    assert!(rt; table.files() > 0 && table.length(0) == 1_048_576);
+    let mut out = [0; 3];
+    let read = read_into::<Untold, OneByteParts>(&mut source, &table, 0, 1_048_573, &mut out);
+    assert_eq!(rt; read, Ok(()));
+    assert_eq!(rt; out.as_slice(), [253, 254, 255].as_slice());
     Ok(())
 }
