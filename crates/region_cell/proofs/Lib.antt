@@ -1,0 +1,9 @@
+mod Rows
+pub mod Places
+pub mod Orders
+pub mod Ranged
+pub mod Filled
+pub mod Statuses
+pub mod Kept
+pub mod Steps
+pub mod Counted

@@ -1,0 +1,179 @@
+-- A region's cell: the tag of its key, its tracker, and the bytes of its frame. What a call makes of key and tracker is one equation on a `Region`.
+use Rattle.std.specs.Prelude.{◌≡◌, ◌≢◌, ◌⊎◌, ◌<◌, ◌≤◌, ◌+◌, ◌-◌, ◌*◌, ◌/◌, ◌%◌, ◌^◌, ℕ, Bool, true, IsTrue, List, length, slice_get, Option, Some, None}
+use Rattle.region_ranges.specs.declared.ranges.ByteRange.{ByteRange}
+use Rattle.region_ranges.specs.declared.keys.Config.{Config}
+use Rattle.region_ranges.specs.declared.keys.RegionKey.{RegionKey}
+use Rattle.region_ranges.specs.Ranges.{aligned}
+use Rattle.region_ranges.specs.Keys.{free_tag, tag_of, manifest_of}
+use Rattle.sparse_tracker.specs.declared.gaps.OpenGap.{OpenGap}
+use Rattle.sparse_tracker.specs.declared.tickets.Ticket.{Ticket}
+use Rattle.sparse_tracker.specs.declared.status.Claim.{Claim}
+use Rattle.sparse_tracker.specs.Letters as letters
+use Rattle.sparse_tracker.specs.Letters.{Letter, present, Tracker, TrackerView, claimed_run, new_tracker, has_all, lacks}
+use Rattle.sparse_tracker.specs.Kept as tracker
+use Rattle.cache_outside.specs.Causes.{Rose}
+use Rattle.blob_parts.specs.Content.{slice_of}
+use Rattle.blob_parts.specs.Pieces.{PieceView}
+
+-- the tag of a region's key, or the free tag, and its letters, gaps and tickets
+pub record Region : Type 0 where
+  pub tag : ℕ
+  pub tracker : Tracker
+
+-- what is told of a frame, but for its bytes
+pub record FrameNote : Type 0 where
+  pub faults : ℕ
+  pub size : ℕ
+  pub tells : Bool
+  pub steady : Bool
+
+-- all of a cell but its bytes and its room; `range` is the size of the ranges in which it is filled
+pub record Note : Type 0 where
+  pub region : Region
+  pub frame : FrameNote
+  pub range : ℕ
+
+-- what contracts see of a cell; `spare` is the number of claims for which there is room
+pub record CellView : Type 0 where
+  pub note : Note
+  pub bytes : List ℕ
+  pub spare : ℕ
+
+-- the tag of a key, or the free tag
+abbrev pub tag_at : Option RegionKey → ℕ
+tag_at None = free_tag
+tag_at (Some key) = tag_of key
+
+-- what is seen of a cell's parts
+abbrev pub seen : Option RegionKey → TrackerView → FrameNote → ℕ → List ℕ → CellView
+seen key t frame range bytes = record { note = record { region = record { tag = tag_at key; tracker = t.tracker }; frame = frame; range = range }; bytes = bytes; spare = t.spare }
+
+-- a cell without a key, as long as its frame, with all bytes absent
+abbrev pub new_cell : FrameNote → ℕ → List ℕ → CellView
+new_cell frame range bytes = record { note = record { region = record { tag = free_tag; tracker = new_tracker frame.size }; frame = frame; range = range }; bytes = bytes; spare = 0 }
+
+-- the number of a region's letters
+abbrev pub len_of : Region → ℕ
+len_of c = length c.tracker.letters
+
+-- ---- the bytes of a region
+
+-- the number of the file, in its manifest, of the key with the tag
+abbrev pub file_of : ℕ → ℕ
+file_of tag = tag / 2 ^ 28 % 4096
+
+-- the number of the region, in its file, of the key with the tag
+abbrev pub part_of : ℕ → ℕ
+part_of tag = tag % 2 ^ 28
+
+-- the bytes of the region of `size` bytes with the tag, where `files` gives those of each file of each manifest: the file's bytes
+-- from the region's start on, fewer at the file's end
+abbrev pub region_bytes : (ℕ → ℕ → List ℕ) → ℕ → ℕ → List ℕ
+region_bytes files size tag = slice_of (files (manifest_of tag) (file_of tag)) (part_of tag * size) size
+
+-- ---- the calls
+
+abbrev pub assign : ℕ → ℕ → Region → Region
+assign tag len c = record { tag = tag; tracker = new_tracker len }
+
+-- the aligned range that `sub` lies in
+abbrev pub range_round : ℕ → ByteRange → Region → ByteRange
+range_round range sub c = aligned sub.start range (len_of c)
+
+-- the run that a claim takes
+abbrev pub claim_run : ℕ → ByteRange → Region → Option ByteRange
+claim_run range sub c = claimed_run (range_round range sub c) sub c.tracker
+
+abbrev pub claim : ℕ → ByteRange → Region → Region
+claim range sub c = record c { tracker = letters.wait_for_range (range_round range sub c) sub c.tracker }
+
+-- what a claim answers
+abbrev pub new_claim : ℕ → ByteRange → Region → Claim
+new_claim range sub c = letters.new_claim (range_round range sub c) sub c.tracker
+
+abbrev pub progress : ℕ → ℕ → Region → Region
+progress g to c = record c { tracker = letters.progress g to c.tracker }
+
+abbrev pub fail : ℕ → Region → Region
+fail g c = record c { tracker = letters.fail g c.tracker }
+
+abbrev pub leave : ℕ → Region → Region
+leave n c = record c { tracker = letters.leave n c.tracker }
+
+abbrev pub are_present : ByteRange → Region → Bool
+are_present sub c = has_all sub c.tracker
+
+-- a cell with another region, and a cell with another note of its frame
+abbrev pub with_region : Region → CellView → CellView
+with_region r c = record c { note = record c.note { region = r } }
+
+abbrev pub with_frame : FrameNote → CellView → CellView
+with_frame f c = record c { note = record c.note { frame = f } }
+
+-- ---- conditions
+
+-- a range that is not empty and lies in one aligned range of the cell
+abbrev pub LiesInRange : ByteRange → Note → Type 0
+LiesInRange sub n = (sub.start < sub.end) × (sub.end ≤ len_of n.region) × (sub.start / n.range ≡ (sub.end - 1) / n.range)
+
+-- a piece of the key's file that begins at the gap's present end and stays in the gap
+pub record FitsGap (size tag : ℕ) (g : OpenGap) (piece : PieceView) : Type 0 where
+  pub manifest : piece.manifest ≡ manifest_of tag
+  pub file : piece.file ≡ file_of tag
+  pub at : piece.at ≡ part_of tag * size + g.upto
+  pub inside : g.upto + length piece.bytes ≤ g.end
+
+-- ---- what a call of the frame leaves
+
+-- its count has not fallen, that of a steady one stands, and all else is as it was
+pub record FrameStays (before now : FrameNote) : Type 0 where
+  pub size : now.size ≡ before.size
+  pub tells : now.tells ≡ before.tells
+  pub steady : now.steady ≡ before.steady
+  pub later : before.faults ≤ now.faults
+  pub stands : IsTrue before.steady → now.faults ≡ before.faults
+
+-- its count rose, or stands at its last value
+abbrev pub Faulted : FrameNote → FrameNote → Type 0
+Faulted before now = Rose before.faults now.faults
+
+-- ---- what is true of every cell
+
+-- a letter that is not present is followed, in its aligned range, by the same letter only
+abbrev pub InOrder : ℕ → List Letter → Type 0
+InOrder range ls = (i j : ℕ) (a b : Letter) → i < j → slice_get ls i ≡ Some a → slice_get ls j ≡ Some b → i / range ≡ j / range → (a ≡ present) ⊎ (b ≡ a)
+
+-- each ticket's bytes lie in one aligned range, and where one of them is absent the ticket is marked failed
+pub record IsRanged (range : ℕ) (c : Region) : Type 0 where
+  pub order : InOrder range c.tracker.letters
+  pub tickets : (j : ℕ) (k : Ticket) → slice_get c.tracker.tickets j ≡ Some k → (k.start < k.end) × (k.end ≤ len_of c) × (k.start / range ≡ (k.end - 1) / range)
+  pub marked : (j : ℕ) (k : Ticket) → slice_get c.tracker.tickets j ≡ Some k → lacks (record { start = k.start; end = k.end }) c.tracker ≡ true → k.failed ≡ true
+
+-- each byte marked present is the file's
+abbrev pub IsFilled : (ℕ → ℕ → List ℕ) → ℕ → Region → List ℕ → Type 0
+IsFilled files size c bytes = (i : ℕ) → slice_get c.tracker.letters i ≡ Some present → slice_get bytes i ≡ slice_get (region_bytes files size c.tag) i
+
+-- a cell with a key is as long as that region of the file
+abbrev pub IsWhole : (ℕ → ℕ → List ℕ) → ℕ → Region → Type 0
+IsWhole files size c = c.tag ≢ free_tag → len_of c ≡ length (region_bytes files size c.tag)
+
+-- a range divides a region, and no cell has more letters than a region has bytes
+pub record IsSized (n : Note) : Type 0 where
+  pub range : 0 < n.range
+  pub divides : n.frame.size % n.range ≡ 0
+  pub size : (0 < n.frame.size) × (n.frame.size < 16777217)
+  pub len : len_of n.region ≤ n.frame.size
+
+-- what a cell keeps, where `told` says whether the archive tells its files
+pub record IsKept (told : Bool) (files : ℕ → ℕ → List ℕ) (c : CellView) : Type 0 where
+  pub sized : IsSized c.note
+  pub ranged : IsRanged c.note.range c.note.region
+  pub whole : IsTrue told → IsWhole files c.note.frame.size c.note.region
+  pub filled : IsTrue told → IsTrue c.note.frame.tells → IsFilled files c.note.frame.size c.note.region c.bytes
+
+-- all that is true of every cell
+pub record IsGood (told : Bool) (files : ℕ → ℕ → List ℕ) (c : CellView) : Type 0 where
+  pub cell : IsKept told files c
+  pub tracker : tracker.IsGood c.note.region.tracker
+  pub bytes : IsTrue c.note.frame.tells → length c.bytes ≡ c.note.frame.size
+  pub unfailed : IsTrue c.note.frame.steady → c.note.frame.faults ≡ 0

@@ -1,0 +1,476 @@
+//! A cell step by step: the first region of a file of 10,000 bytes, its short last one, and a frame that fails.
+
+ghost use Rattle.std.specs.Prelude.{◌≡◌, ◌+◌, ◌<◌, ◌≤◌, ◌++◌, ◌∷◌, [], true, length, IsTrue, IfOk, OnOk, OnErr, IfSome};
+ghost use Rattle.byte_text.specs.Names.{is_name};
+ghost use Rattle.blob_parts.specs.Pieces.{IsPieceAt};
+ghost use Rattle.blob_parts.specs.Tables.{file_length};
+ghost use Rattle.region_cell.specs.Example.{example, counting, IsAt, fresh, claimed, begun, joined, lost, short, short_claimed, half, whole};
+
+use crate::{RegionCell, Taken};
+use blob_parts::{FetchError, PartTable, Piece, fetch, load, resolve};
+use byte_text::{Blobs, Name, Text};
+use cache_frame::MemFrame;
+use cache_outside::{Archive, Frame, FrameFault, MemSource};
+use region_ranges::{ByteRange, Config, RegionKey, region_len};
+use sparse_tracker::{Claim, Gap};
+use std::alloc::{AllocError, Global};
+use std::process::Abort;
+use std::test::Fail;
+
+/// The archive of these tests.
+struct Example;
+
+impl Archive for Example {
+    ghost use Rattle.std.specs.Prelude.{true};
+    ghost use Rattle.region_cell.specs.Example.{example, few_blobs, few_manifests, different};
+
+    ghost tells = { true };
+
+    ghost blobs = { example };
+
+    ghost few = { few_blobs };
+
+    ghost few_manifests = { few_manifests };
+
+    ghost different = { different };
+}
+
+const MANIFEST: &[u8] =
+    b"{\"version\":1,\"files\":[{\"name\":\"__b\",\"physical_name\":\"big.bin\",\"length\":10000}],\"segments\":[]}";
+
+fn counting(alloc: Global, n: u32) -> Result<Text, AllocError>
+    ensures { IfOk result (λ t. t ≡ counting n) }
+{
+    let mut text = Text::new(alloc);
+    for i in 0..n {
+        text.push((i % 251) as u8)?;
+    }
+    Ok(text)
+}
+
+fn add(alloc: Global, blobs: &mut Blobs, name: &[u8], bytes: Text) -> Result<(), AllocError>
+    requires { is_name name.now ≡ true }
+    ensures { IfOk result (λ _. blobs.new ≡ blobs.old ++ (name.now, bytes) ∷ []) }
+{
+    if let Some(name) = Name::read(alloc, name)? {
+        blobs.push((name, bytes))?;
+    }
+    Ok(())
+}
+
+#[tactic(auto, unfolding(crate::specs::Example::example))]
+fn example_blobs(alloc: Global) -> Result<Blobs, AllocError>
+    ensures { IfOk result (λ b. b ≡ example) }
+{
+    let mut blobs = Blobs::new(alloc);
+    add(alloc, &mut blobs, b"__b", counting(alloc, 10_000)?)?;
+    add(alloc, &mut blobs, b"mount-y", Text::of(alloc, MANIFEST)?)?;
+    Ok(blobs)
+}
+
+fn source(alloc: Global) -> Result<MemSource<Example>, AllocError> {
+    let blobs = example_blobs(alloc)?;
+    Ok(MemSource::<Example>::new(alloc, blobs, 65_536, Vec::new(alloc)))
+}
+
+/// The table of the example's only manifest, with its one file.
+fn table(alloc: Global, source: &mut MemSource<Example>) -> Option<PartTable<Example>>
+    ensures { IfSome result (λ t. (t.number ≡ 0) × (0 < length t.files) × (file_length t 0 ≡ 10000)) }
+{
+    let Ok((number, manifest)) = load::<Example, MemSource<Example>>(alloc, source, "mount-y")
+    else {
+        return None;
+    };
+    let Ok(table) = resolve::<Example, MemSource<Example>>(alloc, source, number, &manifest) else {
+        return None;
+    };
+    if table.number() != 0 || table.files() == 0 || table.length(0) != 10_000 {
+        return None;
+    }
+    Some(table)
+}
+
+fn piece(
+    alloc: Global,
+    source: &mut MemSource<Example>,
+    table: &PartTable<Example>,
+    at: u64,
+    len: u32,
+) -> Result<Piece<Example>, FetchError>
+    requires table { (table.now.number ≡ 0) × (0 < length table.now.files) × (file_length table.now 0 ≡ 10000) }
+    requires range { (0 < len) × (len ≤ 65536) × (at + len ≤ 10000) }
+    ensures { IfOk result (IsPieceAt 0 0 at len) }
+{
+    fetch(alloc, source, table, 0, at, len)
+}
+
+const CONFIG: Config = Config {
+    regions: 1,
+    region: 8192,
+    range: 4096,
+    max_freq: 100,
+    min_delta: 60_000,
+};
+
+/// A cell for the file's first region.
+fn first<F: Frame>(alloc: Global, frame: F, table: &PartTable<Example>) -> RegionCell<Example, F>
+    requires size { F.size frame ≡ 8192 }
+    requires table { (table.now.number ≡ 0) × (0 < length table.now.files) × (file_length table.now 0 ≡ 10000) }
+    ensures { IsAt fresh result.note }
+{
+    let mut cell = RegionCell::<Example, F>::new(alloc, frame, &CONFIG);
+    let key = RegionKey {
+        manifest: 0,
+        file: 0,
+        region: 0,
+    };
+    let length = table.length(0);
+    cell.assign(key, region_len(length, 0, 8192));
+    cell
+}
+
+/// A cell for the file's last region.
+fn last<F: Frame>(alloc: Global, frame: F, table: &PartTable<Example>) -> RegionCell<Example, F>
+    requires size { F.size frame ≡ 8192 }
+    requires table { (table.now.number ≡ 0) × (0 < length table.now.files) × (file_length table.now 0 ≡ 10000) }
+    ensures { IsAt short result.note }
+{
+    let mut cell = RegionCell::<Example, F>::new(alloc, frame, &CONFIG);
+    let key = RegionKey {
+        manifest: 0,
+        file: 0,
+        region: 1,
+    };
+    let length = table.length(0);
+    cell.assign(key, region_len(length, 1, 8192));
+    cell
+}
+
+fn claim_first<F: Frame>(cell: &mut RegionCell<Example, F>) -> Result<Claim, AllocError>
+    requires { IsAt fresh cell.old.note }
+    ensures { OnOk result (IsAt claimed cell.new.note) }
+{
+    cell.reserve()?;
+    let claim = cell.claim(ByteRange {
+        start: 100,
+        end: 200,
+    })?;
+    Ok(claim)
+}
+
+fn store_first<F: Frame>(
+    cell: &mut RegionCell<Example, F>,
+    piece: &Piece<Example>,
+) -> Result<(), FrameFault>
+    requires cell { IsAt claimed cell.old.note }
+    requires piece { IsPieceAt 0 0 0 150 piece.now }
+    ensures ok { OnOk result (IsAt begun cell.new.note) }
+    ensures err { OnErr result (IsAt claimed cell.new.note) }
+{
+    cell.store(0, piece)
+}
+
+fn copy_begun<F: Frame>(cell: &mut RegionCell<Example, F>) -> Taken
+    requires { IsAt begun cell.old.note }
+    ensures { IsAt begun cell.new.note }
+{
+    let mut out = [0; 100];
+    cell.copy(0, &mut out)
+}
+
+fn peek_begun<F: Frame>(
+    cell: &mut RegionCell<Example, F>,
+    start: u64,
+    out: &mut [u8],
+) -> Option<Result<(), FrameFault>>
+    requires cell { IsAt begun cell.old.note }
+    requires range { (0 < length out.old) × (start + length out.old ≤ 4096) }
+    ensures { IsAt begun cell.new.note }
+{
+    let sub = ByteRange {
+        start,
+        end: start + out.len() as u64,
+    };
+    cell.peek(sub, out)
+}
+
+fn join<F: Frame>(cell: &mut RegionCell<Example, F>) -> Result<Claim, AllocError>
+    requires { IsAt begun cell.old.note }
+    ensures { OnOk result (IsAt joined cell.new.note) }
+{
+    let claim = cell.claim(ByteRange {
+        start: 120,
+        end: 130,
+    })?;
+    Ok(claim)
+}
+
+fn copy_joined<F: Frame>(cell: &mut RegionCell<Example, F>, out: &mut [u8]) -> Taken
+    requires cell { IsAt joined cell.old.note }
+    requires len { length out.old ≡ 10 }
+    ensures { IsAt joined cell.new.note }
+{
+    cell.copy(1, out)
+}
+
+fn lose<F: Frame>(cell: &mut RegionCell<Example, F>) -> Taken
+    requires { IsAt joined cell.old.note }
+    ensures { IsAt lost cell.new.note }
+{
+    cell.fail(0);
+    let mut out = [0; 100];
+    cell.copy(0, &mut out)
+}
+
+fn claim_again<F: Frame>(cell: &mut RegionCell<Example, F>) -> Result<Claim, AllocError>
+    requires { IsAt lost cell.old.note }
+{
+    cell.claim(ByteRange {
+        start: 100,
+        end: 200,
+    })
+}
+
+fn claim_last<F: Frame>(cell: &mut RegionCell<Example, F>) -> Result<Claim, AllocError>
+    requires { IsAt short cell.old.note }
+    ensures { OnOk result (IsAt short_claimed cell.new.note) }
+{
+    let claim = cell.claim(ByteRange { start: 0, end: 10 })?;
+    Ok(claim)
+}
+
+fn store_inside<F: Frame>(
+    cell: &mut RegionCell<Example, F>,
+    piece: &Piece<Example>,
+) -> Result<(), FrameFault>
+    requires cell { IsAt short_claimed cell.old.note }
+    requires piece { IsPieceAt 0 0 8192 1000 piece.now }
+    ensures { OnOk result (IsAt half cell.new.note) }
+{
+    cell.store(0, piece)
+}
+
+fn store_to_the_end<F: Frame>(
+    cell: &mut RegionCell<Example, F>,
+    piece: &Piece<Example>,
+) -> Result<(), FrameFault>
+    requires cell { IsAt half cell.old.note }
+    requires piece { IsPieceAt 0 0 9192 808 piece.now }
+    ensures { OnOk result (IsAt whole cell.new.note) }
+{
+    cell.store(0, piece)
+}
+
+fn read_the_end<F: Frame>(
+    cell: &mut RegionCell<Example, F>,
+    out: &mut [u8],
+) -> Option<Result<(), FrameFault>>
+    requires cell { IsAt whole cell.old.note }
+    requires len { length out.old ≡ 8 }
+{
+    cell.leave(0);
+    let sub = ByteRange {
+        start: 1800,
+        end: 1808,
+    };
+    cell.peek(sub, out)
+}
+
+/// A frame that fails at its first put and at its first get.
+#[derive(Drop)]
+struct Faulty {
+    frame: MemFrame,
+    put_fails: bool,
+    get_fails: bool,
+    faults: u64,
+}
+
+impl Frame for Faulty {
+    ghost use Rattle.std.specs.Prelude.{true, false, refl, length};
+
+    ghost size = { λ f. length f.frame };
+
+    ghost tells = { λ _. true };
+
+    ghost steady = { λ _. false };
+
+    ghost faults = { λ f. f.faults };
+
+    ghost bytes = { λ f. f.frame };
+
+    fn put(&mut self, at: u32, piece: &[u8]) -> Result<(), FrameFault> {
+        if self.put_fails {
+            self.put_fails = false;
+            self.faults = self.faults.saturating_add(1);
+            return Err(FrameFault);
+        }
+        self.frame.put(at, piece)
+    }
+
+    fn get(&mut self, at: u32, out: &mut [u8]) -> Result<(), FrameFault> {
+        if self.get_fails {
+            self.get_fails = false;
+            self.faults = self.faults.saturating_add(1);
+            return Err(FrameFault);
+        }
+        self.frame.get(at, out)
+    }
+
+    ghost whole = { λ f told. refl };
+
+    ghost unfailed = { λ f steady. Prim.cc };
+}
+
+#[test]
+fn a_cell_step_by_step(rt: HostRuntime) -> Result<(), Fail> {
+    let alloc = rt.alloc();
+    let mut source = source(alloc)?;
+    let Some(table) = table(alloc, &mut source) else {
+        assert!(rt; false);
+        return Ok(());
+    };
+    let mut cell = first(alloc, MemFrame::new(alloc, 8192)?, &table);
+    let claim = claim_first(&mut cell)?;
+    let range = ByteRange {
+        start: 0,
+        end: 4096,
+    };
+    assert_eq!(rt;
+        claim,
+        Claim {
+            gap: Some(Gap { id: 0, range }),
+            ticket: 0
+        }
+    );
+    let Ok(piece) = piece(alloc, &mut source, &table, 0, 150) else {
+        assert!(rt; false);
+        return Ok(());
+    };
+    let Ok(()) = store_first(&mut cell, &piece) else {
+        assert!(rt; false);
+        return Ok(());
+    };
+    let early = copy_begun(&mut cell);
+    assert_eq!(rt; early, Taken::Waiting);
+    let claim = join(&mut cell)?;
+    assert_eq!(rt;
+        claim,
+        Claim {
+            gap: None,
+            ticket: 1
+        }
+    );
+    let mut out = [0; 10];
+    let taken = copy_joined(&mut cell, &mut out);
+    assert_eq!(rt; taken, Taken::Copied);
+    assert_eq!(rt;
+        out.as_slice(),
+        [120, 121, 122, 123, 124, 125, 126, 127, 128, 129].as_slice()
+    );
+    let failed = lose(&mut cell);
+    assert_eq!(rt; failed, Taken::Failed);
+    let claim = claim_again(&mut cell)?;
+    let range = ByteRange {
+        start: 150,
+        end: 4096,
+    };
+    assert_eq!(rt;
+        claim,
+        Claim {
+            gap: Some(Gap { id: 0, range }),
+            ticket: 2
+        }
+    );
+    Ok(())
+}
+
+#[test]
+fn the_short_last_region(rt: HostRuntime) -> Result<(), Fail> {
+    let alloc = rt.alloc();
+    let mut source = source(alloc)?;
+    let Some(table) = table(alloc, &mut source) else {
+        assert!(rt; false);
+        return Ok(());
+    };
+    let mut cell = last(alloc, MemFrame::new(alloc, 8192)?, &table);
+    assert_eq!(rt; cell.len(), 1808);
+    assert!(rt; matches!(cell.key(), Some(key) if key.region == 1));
+    let claim = claim_last(&mut cell)?;
+    let range = ByteRange {
+        start: 0,
+        end: 1808,
+    };
+    assert_eq!(rt;
+        claim,
+        Claim {
+            gap: Some(Gap { id: 0, range }),
+            ticket: 0
+        }
+    );
+    let Ok(inside) = piece(alloc, &mut source, &table, 8192, 1000) else {
+        assert!(rt; false);
+        return Ok(());
+    };
+    let Ok(()) = store_inside(&mut cell, &inside) else {
+        assert!(rt; false);
+        return Ok(());
+    };
+    let Ok(rest) = piece(alloc, &mut source, &table, 9192, 808) else {
+        assert!(rt; false);
+        return Ok(());
+    };
+    let Ok(()) = store_to_the_end(&mut cell, &rest) else {
+        assert!(rt; false);
+        return Ok(());
+    };
+    let mut out = [0; 8];
+    let read = read_the_end(&mut cell, &mut out);
+    assert!(rt; matches!(read, Some(Ok(()))));
+    assert_eq!(rt;
+        out.as_slice(),
+        [203, 204, 205, 206, 207, 208, 209, 210].as_slice()
+    );
+    Ok(())
+}
+
+#[test]
+fn a_frame_that_fails(rt: HostRuntime) -> Result<(), Fail> {
+    let alloc = rt.alloc();
+    let mut source = source(alloc)?;
+    let Some(table) = table(alloc, &mut source) else {
+        assert!(rt; false);
+        return Ok(());
+    };
+    let mut cell = first(
+        alloc,
+        Faulty {
+            frame: MemFrame::new(alloc, 8192)?,
+            put_fails: true,
+            get_fails: true,
+            faults: 0,
+        },
+        &table,
+    );
+    let _claim = claim_first(&mut cell)?;
+    let Ok(piece) = piece(alloc, &mut source, &table, 0, 150) else {
+        assert!(rt; false);
+        return Ok(());
+    };
+    let Err(_) = store_first(&mut cell, &piece) else {
+        assert!(rt; false);
+        return Ok(());
+    };
+    let Ok(()) = store_first(&mut cell, &piece) else {
+        assert!(rt; false);
+        return Ok(());
+    };
+    let mut out = [0; 4];
+    let read = peek_begun(&mut cell, 100, &mut out);
+    assert!(rt; matches!(read, Some(Err(FrameFault))));
+    let read = peek_begun(&mut cell, 100, &mut out);
+    assert!(rt; matches!(read, Some(Ok(()))));
+    assert_eq!(rt; out.as_slice(), [100, 101, 102, 103].as_slice());
+    let none = peek_begun(&mut cell, 148, &mut out);
+    assert!(rt; matches!(none, None));
+    Ok(())
+}
