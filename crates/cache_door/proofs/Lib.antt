@@ -1,0 +1,21 @@
+mod Rows
+pub mod Weighs
+pub mod Keeps
+pub mod Places
+pub mod Policies
+pub mod Mapping
+pub mod Found
+pub mod Calls
+pub mod Walks
+pub mod Frames
+pub mod Claimed
+pub mod Kept
+pub mod Held
+pub mod Looked
+pub mod Entries
+pub mod Enters
+pub mod Stored
+pub mod Made
+pub mod OneOwner
+pub mod ClaimsAbsent
+pub mod PresentKept

@@ -1,0 +1,9 @@
+pub mod Machine
+pub mod Good
+pub mod Takes
+pub mod Doors
+pub mod Choices
+pub mod Cores
+pub mod Claims
+pub mod Stays
+pub mod Laws

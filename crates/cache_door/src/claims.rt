@@ -1,0 +1,113 @@
+//! What an actor does with one region's cell: a claim for a new hold, and a look without one.
+
+ghost use Rattle.std.specs.Prelude.{◌≡◌, ◌≢◌, ◌<◌, ◌≤◌, ◌+◌, ◌-◌, ◌*◌, ◌/◌, IfSome, IsTrue, length};
+ghost use Rattle.blob_parts.specs.Content.{content, slice_of};
+ghost use Rattle.region_ranges.specs.Keys.{IsKey};
+ghost use Rattle.region_cell.specs.Cells.{LiesInRange, IsGood, claim_run, claim, with_region, with_frame, len_of, FrameStays, Faulted, region_bytes};
+ghost use Rattle.cache_door.specs.Machine.{hold_on, no_gap, look_at};
+ghost use Rattle.cache_door.specs.declared.answers.Glance.TheVariants as glance;
+ghost use Rattle.cache_door.specs.Claims.{gap_opened};
+
+use crate::answers::{Glance, Want};
+use crate::hold::Hold;
+use cache_outside::{Archive, Frame, FrameFault};
+use region_cell::RegionCell;
+use region_ranges::{ByteRange, FREE_TAG};
+use sparse_tracker::{Gap, OpenGap, claim_places};
+
+// A gap that is not open.
+pub fn closed() -> OpenGap
+    ensures { result ≡ no_gap }
+{
+    OpenGap {
+        id: 0,
+        upto: 0,
+        end: 0,
+    }
+}
+
+// The gap of a new hold: open where the claim opened one.
+fn open(gap: Option<Gap>) -> OpenGap
+    ensures { result ≡ gap_opened gap }
+{
+    match gap {
+        None => closed(),
+        Some(gap) => OpenGap {
+            id: gap.id,
+            upto: gap.range.start,
+            end: gap.range.end,
+        },
+    }
+}
+
+/// Claims what is wanted in the region's cell, which has room for one more claim: the hold, and the gap or none.
+pub fn claim<A: Archive, F: Frame>(
+    cell: &mut RegionCell<A, F>,
+    region: u32,
+    want: &Want,
+) -> (Hold, Option<ByteRange>)
+    requires key { IsKey want.now.key }
+    requires lies { LiesInRange want.now.sub cell.old.note }
+    requires room { 0 < cell.old.spare }
+    ensures cell { cell.new ≡ record (with_region (claim cell.old.note.range want.now.sub cell.old.note.region) cell.old) { spare = cell.old.spare - 1 } }
+    ensures hold { result.0 ≡ hold_on cell.old.note.range region want.now cell.old.note.region }
+    ensures gap { result.1 ≡ claim_run cell.old.note.range want.now.sub cell.old.note.region }
+    ensures inside { IfSome result.1 (λ g. (g.start < g.end) × (want.now.sub.start / cell.old.note.range * cell.old.note.range ≤ g.start) × (g.end ≤ want.now.sub.start / cell.old.note.range * cell.old.note.range + cell.old.note.range) × (g.end ≤ len_of cell.old.note.region)) }
+    ensures good { IsGood A.tells (content A.blobs) cell.new }
+{
+    claim_places();
+    let Ok(claim) = cell.claim(want.sub) else {
+        unreachable!()
+    };
+    cell.lesson();
+    let hold = Hold {
+        region,
+        tag: want.key.pack(),
+        ticket: claim.ticket,
+        sub: want.sub,
+        gap: open(claim.gap),
+    };
+    (hold, claim.gap.map(|gap| gap.range))
+}
+
+// The tag of the cell's key, or the free tag.
+fn tag<A: Archive, F: Frame>(cell: &RegionCell<A, F>) -> u64
+    ensures { result ≡ cell.now.note.region.tag }
+{
+    match cell.key() {
+        Some(key) => key.pack(),
+        None => FREE_TAG,
+    }
+}
+
+/// Copies the wanted bytes into `out`, if the cell is of the wanted key and has them all.
+pub fn look<A: Archive, F: Frame>(
+    cell: &mut RegionCell<A, F>,
+    want: &Want,
+    out: &mut [u8],
+) -> Glance
+    requires key { IsKey want.now.key }
+    requires some { want.now.sub.start < want.now.sub.end }
+    requires one { want.now.sub.start / cell.old.note.range ≡ (want.now.sub.end - 1) / cell.old.note.range }
+    requires len { length out.old ≡ want.now.sub.end - want.now.sub.start }
+    ensures same { cell.new ≡ with_frame cell.new.note.frame cell.old }
+    ensures frame { FrameStays cell.old.note.frame cell.new.note.frame }
+    ensures answer { result ≢ glance.FrameFault → result ≡ look_at want.now cell.old.note.region }
+    ensures fault { result ≡ glance.FrameFault → Faulted cell.old.note.frame cell.new.note.frame }
+    ensures steady { IsTrue cell.old.note.frame.steady → result ≢ glance.FrameFault }
+    ensures bytes { IsTrue cell.old.note.frame.tells → result ≡ glance.Copied → out.new ≡ slice_of cell.old.bytes want.now.sub.start (want.now.sub.end - want.now.sub.start) }
+    ensures content { IsTrue A.tells → IsTrue cell.old.note.frame.tells → result ≡ glance.Copied → out.new ≡ slice_of (region_bytes (content A.blobs) cell.old.note.frame.size cell.old.note.region.tag) want.now.sub.start (want.now.sub.end - want.now.sub.start) }
+{
+    let tag = tag(cell);
+    if tag != want.key.pack() {
+        return Glance::Moved(tag);
+    }
+    if want.sub.end > cell.len() as u64 {
+        return Glance::Absent;
+    }
+    match cell.peek(want.sub, out) {
+        None => Glance::Absent,
+        Some(Ok(())) => Glance::Copied,
+        Some(Err(FrameFault)) => Glance::FrameFault,
+    }
+}

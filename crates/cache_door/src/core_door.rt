@@ -1,0 +1,138 @@
+//! One actor's door of a core.
+
+ghost use Rattle.std.specs.Prelude.{◌≡◌, ◌≢◌, ◌<◌, ◌≤◌, ◌-◌, ◌==◌, ℕ, true, Some, IfSome, IfOk, OnOk, OnErr, IsTrue, length, option_map, if◌then◌else◌, Ok};
+ghost use Rattle.region_ranges.specs.declared.keys.Config.{Config};
+ghost use Rattle.cache_door.specs.declared.work.Work.{Work};
+ghost use Rattle.cache_door.specs.Machine.{State, hold_at, is_gone};
+ghost use Rattle.cache_door.specs.Doors.{Told, told_hold};
+ghost use Rattle.cache_door.specs.Cores.{state_of, all_tell, all_steady, all_faults, Later};
+
+use crate::answers::{Entered, Glance, Want};
+use crate::cache::Core;
+use crate::door::CacheDoor;
+use blob_parts::Piece;
+use cache_outside::{Archive, Frame, FrameFault};
+use region_cell::Taken;
+use std::alloc::AllocError;
+
+/// One actor's way into a core. Letting it go keeps the actor's hold.
+#[derive(Drop)]
+pub struct CoreDoor<'a, A: Archive, F: Frame> {
+    core: &'a mut Core<A, F>,
+    actor: u32,
+    ghost seated: { actor < length core.now.holds },
+}
+
+impl<'a, A: Archive + Drop, F: Frame + Drop> CoreDoor<'a, A, F> {
+    /// The door of this actor of the core. The core is the same one, which its caller gets back.
+    pub(crate) fn new(core: &'a mut Core<A, F>, actor: u32) -> CoreDoor<'a, A, F>
+        requires { actor < length core.old.holds }
+        ensures core { result.core.now ≡ core.old }
+        ensures same { result.core.ghost_name ≡ core.entry.ghost_name }
+        ensures actor { result.actor ≡ actor }
+    {
+        CoreDoor { core, actor }
+    }
+}
+
+// A missing proof of `Send` shows here, and not first at the threads above.
+fn crosses<T: Send>() {}
+
+/// A core may be handed to another thread.
+pub fn core_crosses<A: Archive + Send, F: Frame + Send>() {
+    crosses::<Core<A, F>>();
+}
+
+impl<'a, A: Archive + Drop, F: Frame + Drop> CacheDoor<A> for CoreDoor<'a, A, F> {
+    ghost use Rattle.std.specs.Prelude.{refl};
+    ghost use Rattle.std.proofs.Common.{◌∙◌};
+    ghost use Rattle.cache_door.specs.Stays.{later_same, later_on};
+
+    ghost hold = { λ d. told_hold (hold_at (state_of d.core.now) d.actor) };
+
+    ghost config = { λ d. d.core.now.config };
+
+    ghost frames_tell = { λ d. all_tell d.core.now.cells };
+
+    ghost frames_steady = { λ d. all_steady d.core.now.cells };
+
+    ghost frame_faults = { λ d. all_faults d.core.now.cells };
+
+    ghost seen_gone = { λ d m. is_gone (state_of d.core.now) m };
+
+    ghost unmounted = { λ d m. is_gone (state_of d.core.now) m };
+
+    ghost work = { λ d. d.core.now.work };
+
+    ghost state = { λ d. Some (state_of d.core.now) };
+
+    ghost actor = { λ d. d.actor };
+
+    ghost stays = { λ x y. (y.core.ghost_name ≡ x.core.ghost_name) × (y.actor ≡ x.actor) × Later x.core.now y.core.now };
+
+    fn enter(&mut self, mount: u32, want: &Want, now: u64) -> Result<Entered, AllocError> {
+        let entered = self.core.enter(self.actor, mount, want, now);
+        self.core.lesson();
+        entered
+    }
+
+    fn take_bytes(&mut self, out: &mut [u8]) -> Taken {
+        let taken = self.core.take_bytes(self.actor, out);
+        self.core.lesson();
+        taken
+    }
+
+    fn store(&mut self, piece: &Piece<A>) -> Result<(), FrameFault> {
+        let stored = self.core.store(self.actor, piece);
+        self.core.lesson();
+        stored
+    }
+
+    fn fail(&mut self) {
+        self.core.fail(self.actor);
+        self.core.lesson();
+    }
+
+    fn leave(&mut self) {
+        self.core.leave(self.actor);
+        self.core.lesson();
+    }
+
+    fn glance(&mut self, region: u32, want: &Want, out: &mut [u8]) -> Glance {
+        let seen = self.core.glance(region, want, out);
+        self.core.lesson();
+        seen
+    }
+
+    fn decay(&mut self, now: u64) {
+        self.core.decay(now);
+        self.core.lesson();
+    }
+
+    fn clear(&mut self, manifest: u32) {
+        self.core.clear(manifest);
+        self.core.lesson();
+    }
+
+    fn live(&mut self, _mount: u32) {
+        self.core.lesson();
+        self.core.rest();
+    }
+
+    fn unmount(&mut self, mount: u32, manifest: u32) {
+        self.core.unmount(mount, manifest);
+        self.core.lesson();
+    }
+
+    ghost stays_same = { λ x. (refl, refl, later_same x.core.now) };
+
+    ghost stays_on = { λ x y z a b. (b.0 ∙ a.0, b.1 ∙ a.1, later_on a.2 b.2) };
+
+    ghost same_config = { λ x y a. a.2.config };
+
+    ghost same_tell = { λ x y a. a.2.tell };
+
+    ghost same_steady = { λ x y a. a.2.steady };
+
+    ghost same_actor = { λ x y a. a.1 };
+}
