@@ -1,0 +1,4 @@
+pub mod Matches
+pub mod Hits
+pub mod Sets
+pub mod Answers

@@ -1,0 +1,110 @@
+// The files of a segment.
+ghost use Rattle.std.specs.Prelude.{◌≡◌, ◌<◌, ◌&&◌, ℕ, List, Bool, Some, None, IsTrue, IfOk, IfErr, MatchOption, length};
+ghost use Rattle.std.specs.Option.{ForSome};
+ghost use Rattle.doc_bits.specs.Places.{zip_with};
+ghost use Rattle.directory_input.specs.Causes.{HasBytesCause};
+ghost use Rattle.directory_input.specs.Windows.{window_bytes};
+ghost use Rattle.simpletext_postings.specs.Postings.{postings};
+ghost use Rattle.simpletext_postings.specs.Terms.{FitsText};
+ghost use Rattle.query_lang.specs.Trees.{tree_of};
+ghost use Rattle.shard_search.specs.Hits.{segment_docs, live_in, in_file};
+ghost use Rattle.shard_search.specs.Answers.{search_refusal, GivesSet, GivesLive, Opens, NamesFile};
+
+use crate::SearchError;
+use crate::combining::matching;
+use crate::error::refused_in;
+use directory_input::{FileBytes, Input};
+use doc_bits::DocBits;
+use mount_manifest::Segment;
+use query_lang::Query;
+use simpletext_postings::Dictionary;
+use simpletext_stored::live;
+use std::alloc::Global;
+
+/// The dictionary of a segment's postings.
+fn dictionary<B: FileBytes>(
+    alloc: Global,
+    bytes: &mut B,
+    segment: &Segment,
+) -> Result<Dictionary, SearchError>
+    requires { segment.now.postings < B.count bytes.old }
+    ensures told { IsTrue (B.tells bytes.old) → Opens result (in_file segment.now.postings (postings (B.bytes bytes.old segment.now.postings) segment.now.docs)) }
+    ensures docs { IfOk result (λ d. d.docs ≡ segment.now.docs) }
+    ensures text { IsTrue (B.tells bytes.old) → IfOk result (λ d. window_bytes (B.bytes bytes.old) d.input ≡ B.bytes bytes.old segment.now.postings) }
+    ensures fits { IfOk result (FitsText (B.count bytes.new) (B.length_of bytes.new) (B.tells bytes.new) (B.bytes bytes.new)) }
+    ensures known { (n : ℕ) → segment.now.postings < n → IfErr result (NamesFile n) }
+    ensures goes { B.goes_on bytes.old bytes.new }
+    ensures cause { HasBytesCause (B.faults bytes.old) (B.faults bytes.new) (B.mount bytes.old) (B.gone bytes.new) (B.wanted bytes.old) (B.wanted bytes.new) (search_refusal result) }
+{
+    let input = Input::open(bytes, segment.postings);
+    match Dictionary::open(alloc, bytes, input, segment.docs) {
+        Ok(dictionary) => Ok(dictionary),
+        Err(e) => Err(refused_in(segment.postings, e)),
+    }
+}
+
+/// The live documents of a segment, where it has a file of them.
+pub(crate) fn live_set<B: FileBytes>(
+    alloc: Global,
+    bytes: &mut B,
+    segment: &Segment,
+) -> Result<Option<DocBits>, SearchError>
+    requires { ForSome segment.now.live (λ f. f < B.count bytes.old) }
+    ensures told { IsTrue (B.tells bytes.old) → GivesLive result segment.now.docs (live_in (B.bytes bytes.old) segment.now.docs segment.now.live) }
+    ensures length { IfOk result (λ o. ForSome o (λ bits. length bits ≡ segment.now.docs)) }
+    ensures known { (n : ℕ) → ForSome segment.now.live (λ f. f < n) → IfErr result (NamesFile n) }
+    ensures goes { B.goes_on bytes.old bytes.new }
+    ensures cause { HasBytesCause (B.faults bytes.old) (B.faults bytes.new) (B.mount bytes.old) (B.gone bytes.new) (B.wanted bytes.old) (B.wanted bytes.new) (search_refusal result) }
+{
+    match segment.live {
+        None => Ok(None),
+        Some(file) => {
+            let input = Input::open(bytes, file);
+            match live(alloc, bytes, input, segment.docs) {
+                Ok(bits) => Ok(Some(bits)),
+                Err(e) => Err(refused_in(file, e)),
+            }
+        }
+    }
+}
+
+fn and_live(bits: DocBits, live: Option<DocBits>) -> DocBits
+    requires { ForSome live (λ l. length l ≡ length bits) }
+    ensures { MatchOption live (result ≡ bits) (λ l. result ≡ zip_with ◌&&◌ bits l) }
+{
+    let mut kept = bits;
+    if let Some(live) = live {
+        kept.and(&live);
+    }
+    kept
+}
+
+/// The set of the live documents of a segment that a query matches. Its postings are read before its live documents.
+pub(crate) fn found_in<B: FileBytes>(
+    alloc: Global,
+    bytes: &mut B,
+    segment: &Segment,
+    query: &Query,
+) -> Result<DocBits, SearchError>
+    requires postings { segment.now.postings < B.count bytes.old }
+    requires live { ForSome segment.now.live (λ f. f < B.count bytes.old) }
+    ensures told { IsTrue (B.tells bytes.old) → GivesSet result (segment_docs (B.bytes bytes.old) (tree_of query.now) segment.now) }
+    ensures length { IfOk result (λ bits. length bits ≡ segment.now.docs) }
+    ensures known { (n : ℕ) → segment.now.postings < n → ForSome segment.now.live (λ f. f < n) → IfErr result (NamesFile n) }
+    ensures goes { B.goes_on bytes.old bytes.new }
+    ensures cause { HasBytesCause (B.faults bytes.old) (B.faults bytes.new) (B.mount bytes.old) (B.gone bytes.new) (B.wanted bytes.old) (B.wanted bytes.new) (search_refusal result) }
+{
+    let dictionary = match dictionary(alloc, bytes, segment) {
+        Ok(dictionary) => dictionary,
+        Err(e) => return Err(e),
+    };
+    let live = match live_set(alloc, bytes, segment) {
+        Ok(live) => live,
+        Err(e) => return Err(e),
+    };
+    let bits = match matching(alloc, bytes, &dictionary, segment.docs, query) {
+        Ok(bits) => bits,
+        Err(e) => return Err(refused_in(segment.postings, e)),
+    };
+    Ok(and_live(bits, live))
+}
