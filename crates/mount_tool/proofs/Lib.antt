@@ -1,5 +1,6 @@
 pub mod Behind
 pub mod Counts
-pub mod Matching
 pub mod Counted
+pub mod Showing
+pub mod Allowed
 pub mod Sample

@@ -1,60 +1,68 @@
 -- What `term` gives for an archive that is held whole in memory.
-use Rattle.std.specs.Prelude.{ℕ, List, [], ◌∷◌, length, take, map, Option, Some, None, is_none, Result, Ok, Err, if◌then◌else◌}
-use Rattle.std.specs.List.{filter, range_with_len}
+use Rattle.std.specs.Prelude.{ℕ, List, [], length, take, map, Option, Some, None, Result, Ok, Err, slice_get}
+use Rattle.std.specs.Option.{option_map_or}
 use Rattle.cache_outside.specs.Listing.{Listing, manifest_number}
 use Rattle.mount_manifest.specs.Manifest.{Facts}
+use Rattle.mount_manifest.specs.declared.record.FileRecord.{FileRecord}
 use Rattle.mount_manifest.specs.declared.record.Segment.{Segment}
 use Rattle.mount_manifest.specs.declared.error.ManifestError.{ManifestError}
-use Rattle.blob_parts.specs.Content.{content, manifest_at, part_refusal, PartRefusal}
-use Rattle.simpletext_postings.specs.declared.rows.Row.{Row}
-use Rattle.simpletext_postings.specs.Rows.{has_row}
-use Rattle.simpletext_postings.specs.Postings.{built_rows}
+use Rattle.mount_manifest.specs.declared.error.ManifestError.TheVariants as manifest
+use Rattle.blob_parts.specs.Content.{content, manifest_at, part_refusal, PartRefusal, no_part, other_size}
+use Rattle.query_lang.specs.Trees.{term}
+use Rattle.shard_search.specs.Hits.{BadFile, hits}
 use Rattle.mount_tool.specs.Words.{Term}
 use Rattle.mount_tool.specs.declared.line.Line.{Line}
-use Rattle.mount_tool.specs.declared.line.Line.TheVariants.{Hits, Missing, Form}
+use Rattle.mount_tool.specs.declared.line.Line.TheVariants.{Hits, Refused, BadShard, NoMemory}
+use Rattle.mount_tool.specs.declared.refusal.Refusal.TheVariants.{Missing, Json, Shape, Limit, Double, NoFile, Part, Size}
 
--- the documents of a segment of `docs` documents that have a row of the field and the term, rising
-abbrev pub matching : List ℕ → List ℕ → ℕ → List Row → List ℕ
-matching field term docs rows = filter (has_row field term rows) (range_with_len 0 docs)
+-- ---- hits
 
-abbrev pub hit_in : List ℕ → ℕ → List ℕ × ℕ
-hit_in segment doc = (segment, doc)
+abbrev pub segment_name : List Segment → ℕ → List ℕ
+segment_name segments n = option_map_or (λ (s : Segment). s.name) (slice_get segments n) []
 
--- at most 10,000 hits are shown
-abbrev pub shown_of : List ℕ → List ℕ → List (List ℕ × ℕ)
-shown_of segment docs = map (hit_in segment) (take 10000 docs)
+-- a hit as it is shown: its segment's name and its document
+abbrev pub named : List Segment → ℕ × ℕ → List ℕ × ℕ
+named segments hit = (segment_name segments hit.0, hit.1)
 
-abbrev pub hits_of : List ℕ → List ℕ → Line
-hits_of segment docs = Hits (length docs) (shown_of segment docs)
+abbrev pub physical_name : List FileRecord → ℕ → List ℕ
+physical_name files i = option_map_or (λ (f : FileRecord). f.physical_name) (slice_get files i) []
 
-abbrev pub rows_line : List ℕ → List ℕ → Segment → Option (List Row) → Line
-rows_line field term s None = Form
-rows_line field term s (Some rows) = hits_of s.name (matching field term s.docs rows)
+-- the number of hits, and the first 10,000 of them; or the first file of the shard that is bad
+abbrev pub hits_line : Facts → Result (List (ℕ × ℕ)) BadFile → Line
+hits_line f (Ok hs) = Hits (length hs) (map (named f.segments) (take 10000 hs))
+hits_line f (Err bad) = BadShard (physical_name f.files bad.file) bad.at
 
--- the one segment, which has no file of live documents
-abbrev pub only_segment : List Segment → Option Segment
-only_segment (s ∷ []) = if is_none s.live then Some s else None
-only_segment _ = None
+-- ---- refusals
 
--- `bytes` is the content of each file by its number
-abbrev pub segment_line : List ℕ → List ℕ → (ℕ → List ℕ) → Option Segment → Line
-segment_line field term bytes None = Form
-segment_line field term bytes (Some s) = rows_line field term s (built_rows (bytes s.postings) s.docs)
+-- the line of a manifest that is refused; no text is refused for want of memory
+abbrev pub error_line : ManifestError → Line
+error_line manifest.NotJson = Refused Json
+error_line (manifest.Shape field) = Refused (Shape field)
+error_line (manifest.Limit field value) = Refused (Limit field)
+error_line (manifest.Double name) = Refused (Double name)
+error_line (manifest.NoFile name) = Refused (NoFile name)
+error_line manifest.NoMemory = NoMemory
+
+abbrev pub part_line : PartRefusal → Line
+part_line (no_part name) = Refused (Part name)
+part_line (other_size name told wanted) = Refused (Size name)
+
+-- ---- the line
 
 abbrev pub parts_line : Option PartRefusal → Line → Line
 parts_line None line = line
-parts_line (Some refusal) line = Form
+parts_line (Some refusal) line = part_line refusal
 
 abbrev pub facts_line : List ℕ → List ℕ → Listing → ℕ → Facts → Line
-facts_line field term blobs m f = parts_line (part_refusal blobs f.files) (segment_line field term (content blobs m) (only_segment f.segments))
+facts_line field value blobs m f = parts_line (part_refusal blobs f.files) (hits_line f (hits (content blobs m) (term field value) f.segments))
 
 abbrev pub manifest_line : List ℕ → List ℕ → Listing → ℕ → Result Facts ManifestError → Line
-manifest_line field term blobs m (Err e) = Form
-manifest_line field term blobs m (Ok f) = facts_line field term blobs m f
+manifest_line field value blobs m (Err e) = error_line e
+manifest_line field value blobs m (Ok f) = facts_line field value blobs m f
 
 abbrev pub found_line : List ℕ → List ℕ → Listing → Option ℕ → Line
-found_line field term blobs None = Missing
-found_line field term blobs (Some m) = manifest_line field term blobs m (manifest_at blobs m)
+found_line field value blobs None = Refused Missing
+found_line field value blobs (Some m) = manifest_line field value blobs m (manifest_at blobs m)
 
 abbrev pub plain : Listing → Term → Line
 plain blobs t = found_line t.field t.term blobs (manifest_number t.manifest blobs)

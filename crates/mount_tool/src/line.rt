@@ -1,6 +1,7 @@
 ghost use Rattle.std.specs.Prelude.{◌≡◌, ◌++◌, IfOk, OnOk, string_bytes};
-ghost use Rattle.mount_tool.specs.Replies.{shown_text, hits_text};
+ghost use Rattle.mount_tool.specs.Replies.{shown_text, hits_text, bad_text};
 
+use crate::refusal::Refusal;
 use crate::shown::Shown;
 use byte_text::Name;
 use std::alloc::{AllocError, Global};
@@ -10,10 +11,10 @@ use std::alloc::{AllocError, Global};
 pub enum Line {
     /// The number of documents that match, and the first 10,000 of them.
     Hits { total: u64, shown: Shown },
-    /// The archive has no such manifest.
-    Missing,
-    /// The manifest, a part or the postings are not of a form that is read.
-    Form,
+    /// The manifest is refused, or a part of its files.
+    Refused(Refusal),
+    /// The text of the file with this physical name has a line that is not allowed, which begins at the byte `at`.
+    BadShard { file: Name, at: u64 },
     /// The source failed.
     Fault,
     /// Memory was wanted.
@@ -40,6 +41,14 @@ fn hits_text(alloc: Global, total: u64, shown: &[(Name, u32)]) -> Result<String,
     Ok(text)
 }
 
+/// `bad shard`, the file's physical name and the place.
+fn bad_text(alloc: Global, file: &Name, at: u64) -> Result<String, AllocError>
+    ensures { IfOk result (λ s. string_bytes s ≡ bad_text file.now at) }
+{
+    let name = file.as_str();
+    format!(in alloc; "bad shard {name} {at}")
+}
+
 impl Line {
     ghost use Rattle.mount_tool.specs.Replies.{line_text, status_of};
 
@@ -49,8 +58,8 @@ impl Line {
     {
         match self {
             Line::Hits { total, shown } => hits_text(alloc, *total, shown.as_slice()),
-            Line::Missing => String::from_str(alloc, "refused missing"),
-            Line::Form => String::from_str(alloc, "refused form"),
+            Line::Refused(refusal) => refusal.text(alloc),
+            Line::BadShard { file, at } => bad_text(alloc, file, *at),
             Line::Fault => String::from_str(alloc, "fault"),
             Line::NoMemory => String::from_str(alloc, "no memory"),
         }
@@ -62,7 +71,7 @@ impl Line {
     {
         match self {
             Line::Hits { .. } => 0,
-            Line::Missing | Line::Form | Line::Fault => 1,
+            Line::Refused(_) | Line::BadShard { .. } | Line::Fault => 1,
             Line::NoMemory => 6,
         }
     }

@@ -4,6 +4,7 @@
 
 mod line;
 mod program;
+mod refusal;
 mod run;
 mod search;
 mod shown;
@@ -11,6 +12,7 @@ mod write;
 
 use cache_outside::StdSink;
 pub use line::Line;
+pub use refusal::Refusal;
 pub use run::{Outcome, mount_tool};
 pub use shown::Shown;
 

@@ -1,123 +1,102 @@
-// The command `term`: the documents of a manifest's one segment that have a row of a field and a term.
-ghost use Rattle.std.specs.Prelude.{◌≡◌, ◌<◌, ◌≤◌, true, Ok, Some, IsTrue, IfOk, IfSome, OnOk, IsErrOf, length, option_map};
+// The command `term`: the documents of a manifest's segments that have a term in a field.
+ghost use Rattle.std.specs.Prelude.{◌≡◌, ◌<◌, ◌≤◌, ℕ, true, Ok, Some, IsTrue, IfOk, All, length, map, take, slice_get};
 ghost use Rattle.cache_outside.specs.Causes.{Rose};
-ghost use Rattle.blob_parts.specs.Content.{content, manifest_at};
-ghost use Rattle.blob_parts.specs.declared.read.FetchError.TheVariants.{Fault};
-ghost use Rattle.mount_manifest.specs.Sound.{IsSegment};
-ghost use Rattle.simpletext_postings.specs.Postings.{built_rows};
+ghost use Rattle.blob_parts.specs.Content.{content, manifest_at, part_refusal};
+ghost use Rattle.blob_parts.specs.Resolving.{Refuses};
+ghost use Rattle.query_lang.specs.Trees.{tree_of, term};
+ghost use Rattle.shard_search.specs.Hits.{hits};
+ghost use Rattle.shard_search.specs.Answers.{IsHitOf, pair_of};
 ghost use Rattle.mount_tool.specs.Runs.{IsAllowed};
 ghost use Rattle.mount_tool.specs.Words.{Term};
-ghost use Rattle.mount_tool.specs.Terms.{plain, facts_line, segment_line, rows_line, only_segment, shown_of, hits_of, matching};
+ghost use Rattle.mount_tool.specs.Terms.{plain, facts_line, hits_line, error_line, named, physical_name};
 
 use crate::line::Line;
+use crate::refusal::Refusal;
 use crate::shown::Shown;
-use blob_parts::{FetchError, LoadError, PartTable, ResolveError, load, read_into, resolve};
-use byte_text::Name;
+use blob_parts::{DirectBytes, LoadError, PartTable, ResolveError, load, resolve};
+use byte_text::{Name, Text};
 use cache_outside::{Archive, BlobSource};
-use mount_manifest::{Manifest, Segment};
-use simpletext_postings::{Rows, WholeError, read_whole};
+use directory_input::BytesError;
+use mount_manifest::{Manifest, ManifestError};
+use query_lang::Query;
+use shard_search::{HitList, Hits, SearchError, Shelf, search};
 use std::alloc::{AllocError, Global};
 
 /// The most hits that a line shows.
-const SHOWN: usize = 10_000;
+const SHOWN: u32 = 10_000;
 
-fn shown_of(alloc: Global, segment: &Name, docs: &[u32]) -> Result<Shown, AllocError>
-    ensures { IfOk result (λ shown. shown ≡ shown_of segment.now docs.now) }
+/// The query for a term of a field.
+fn term_query(alloc: Global, field: &str, value: &str) -> Result<Query, AllocError>
+    ensures { IfOk result (λ query. tree_of query ≡ term field.now value.now) }
+{
+    Ok(Query::Term {
+        field: Text::of(alloc, field.as_bytes())?,
+        value: Text::of(alloc, value.as_bytes())?,
+    })
+}
+
+/// The hits as they are shown.
+fn shown_of(alloc: Global, shard: &Manifest, hits: &HitList) -> Result<Shown, AllocError>
+    requires { All (IsHitOf shard.now.segments) hits.now }
+    ensures { IfOk result (λ shown. shown ≡ map (named shard.now.segments) (map pair_of hits.now)) }
 {
     let mut shown = Shown::new(alloc);
-    for i in 0..SHOWN.min(docs.len()) {
-        shown.push((segment.clone()?, docs[i]))?;
+    for i in 0..hits.len() {
+        let hit = hits.get(i);
+        let segment = shard.segment(hit.segment);
+        shown.push((segment.name.clone()?, hit.doc))?;
     }
     Ok(shown)
 }
 
-/// The hits of a segment with these rows.
-fn hits_of(
-    alloc: Global,
-    segment: &Segment,
-    rows: &Rows,
-    field: &str,
-    term: &str,
-) -> Result<Line, AllocError>
-    requires { rows.now.docs ≡ segment.now.docs }
-    ensures { IfOk result (λ line. line ≡ hits_of segment.now.name (matching field.now term.now segment.now.docs rows.now.rows)) }
+fn found_line(alloc: Global, shard: &Manifest, hits: &Hits) -> Line
+    requires { All (IsHitOf shard.now.segments) hits.now.list }
+    ensures { IsAllowed true (Line.Hits hits.now.total (map (named shard.now.segments) (map pair_of hits.now.list))) 0 0 result }
 {
-    let docs = rows.documents_with(alloc, field.as_bytes(), term.as_bytes())?;
-    let shown = shown_of(alloc, &segment.name, &docs)?;
-    Ok(Line::Hits {
-        total: docs.len() as u64,
-        shown,
-    })
-}
-
-/// The line of a segment whose postings are this text.
-fn rows_line(alloc: Global, segment: &Segment, text: &[u8], field: &str, term: &str) -> Line
-    ensures { IsAllowed true (rows_line field.now term.now segment.now (built_rows text.now segment.now.docs)) 0 0 result }
-{
-    match read_whole(alloc, text, segment.docs) {
-        Ok(rows) => match hits_of(alloc, segment, &rows, field, term) {
-            Ok(line) => line,
-            Err(_) => Line::NoMemory,
+    match shown_of(alloc, shard, &hits.list) {
+        Ok(shown) => Line::Hits {
+            total: hits.total,
+            shown,
         },
-        Err(WholeError::Form) => Line::Form,
-        Err(WholeError::NoMemory) => Line::NoMemory,
+        Err(_) => Line::NoMemory,
     }
 }
 
-/// The manifest's one segment, where it has no file of live documents.
-fn only_segment(manifest: &Manifest) -> Option<&Segment>
-    ensures segment { option_map (λ s. s.now) result ≡ only_segment manifest.now.segments }
-    ensures kept { IfSome result (λ s. IsSegment (length manifest.now.files) s.now) }
+fn bad_line(shard: &Manifest, file: u32, at: u64) -> Line
+    requires { file < length shard.now.files }
+    ensures { IsAllowed true (Line.BadShard (physical_name shard.now.files file) at) 0 0 result }
 {
-    if manifest.segments_len() != 1 {
-        return None;
+    match shard.file(file).physical_name.clone() {
+        Ok(file) => Line::BadShard { file, at },
+        Err(_) => Line::NoMemory,
     }
-    let segment = manifest.segment(0);
-    if segment.live.is_some() {
-        return None;
-    }
-    Some(segment)
-}
-
-/// All bytes of a file.
-fn whole_file<A: Archive, S: BlobSource<A>>(
-    alloc: Global,
-    source: &mut S,
-    table: &PartTable<A>,
-    file: u32,
-) -> Result<Vec<u8>, FetchError>
-    requires { file < length table.now.files }
-    ensures bytes { IsTrue A.tells → IfOk result (λ v. v.items ≡ content A.blobs table.now.number file) }
-    ensures later { S.faults source.old ≤ S.faults source.new }
-    ensures fault { IsErrOf result Fault → Rose (S.faults source.old) (S.faults source.new) }
-    ensures same { S.which source.new ≡ S.which source.old }
-{
-    let mut bytes = vec![in alloc; 0u8; table.length(file) as usize]?;
-    read_into(source, table, file, 0, &mut bytes)?;
-    Ok(bytes)
 }
 
 /// The line of a manifest whose parts are all there.
-fn table_line<A: Archive, S: BlobSource<A>>(
+fn shard_line<A: Archive, S: BlobSource<A>>(
     alloc: Global,
     source: &mut S,
-    manifest: &Manifest,
+    shard: &Manifest,
     table: &PartTable<A>,
     field: &str,
-    term: &str,
+    value: &str,
 ) -> Line
-    requires { length table.now.files ≡ length manifest.now.files }
-    ensures allowed { IsAllowed A.tells (segment_line field.now term.now (content A.blobs table.now.number) (only_segment manifest.now.segments))
+    requires { length table.now.files ≡ length shard.now.files }
+    ensures allowed { IsAllowed A.tells (hits_line shard.now (hits (content A.blobs table.now.number) (term field.now value.now) shard.now.segments))
         (S.faults source.old) (S.faults source.new) result }
     ensures same { S.which source.new ≡ S.which source.old }
 {
-    let Some(segment) = only_segment(manifest) else {
-        return Line::Form;
+    let Ok(query) = term_query(alloc, field, value) else {
+        return Line::NoMemory;
     };
-    match whole_file(alloc, source, table, segment.postings) {
-        Ok(text) => rows_line(alloc, segment, &text, field, term),
-        Err(FetchError::Fault) => Line::Fault,
-        Err(FetchError::NoMemory) => Line::NoMemory,
+    let mut bytes = DirectBytes::<A, S>::new(source, table);
+    let mut shelf = Shelf::new();
+    match search(alloc, &mut bytes, &mut shelf, shard, &query, SHOWN) {
+        Ok(hits) => found_line(alloc, shard, &hits),
+        Err(SearchError::Bad { file, at }) => bad_line(shard, file, at),
+        Err(SearchError::Bytes(BytesError::Fault)) => Line::Fault,
+        Err(SearchError::Bytes(BytesError::NoMemory)) => Line::NoMemory,
+        Err(SearchError::Bytes(BytesError::Gone { .. })) => unreachable!(),
     }
 }
 
@@ -128,18 +107,33 @@ fn manifest_line<A: Archive, S: BlobSource<A>>(
     number: u32,
     manifest: &Manifest,
     field: &str,
-    term: &str,
+    value: &str,
 ) -> Line
     requires small { number < 65536 }
     requires told { IsTrue A.tells → manifest_at A.blobs number ≡ Ok manifest.now }
-    ensures allowed { IsAllowed A.tells (facts_line field.now term.now A.blobs number manifest.now) (S.faults source.old) (S.faults source.new) result }
+    ensures allowed { IsAllowed A.tells (facts_line field.now value.now A.blobs number manifest.now) (S.faults source.old) (S.faults source.new) result }
     ensures same { S.which source.new ≡ S.which source.old }
 {
     match resolve::<A, S>(alloc, source, number, manifest) {
-        Ok(table) => table_line(alloc, source, manifest, &table, field, term),
-        Err(ResolveError::Missing { .. } | ResolveError::PartSize { .. }) => Line::Form,
+        Ok(table) => shard_line::<A, S>(alloc, source, manifest, &table, field, value),
+        Err(ResolveError::Missing { name }) => Line::Refused(Refusal::Part { name }),
+        Err(ResolveError::PartSize { name, .. }) => Line::Refused(Refusal::Size { name }),
         Err(ResolveError::Fault) => Line::Fault,
         Err(ResolveError::NoMemory) => Line::NoMemory,
+    }
+}
+
+/// The line of a manifest whose text is refused.
+fn error_line(error: ManifestError) -> Line
+    ensures { result ≡ error_line error }
+{
+    match error {
+        ManifestError::NotJson => Line::Refused(Refusal::Json),
+        ManifestError::Shape { field } => Line::Refused(Refusal::Shape { field }),
+        ManifestError::Limit { field, .. } => Line::Refused(Refusal::Limit { field }),
+        ManifestError::Double { name } => Line::Refused(Refusal::Double { name }),
+        ManifestError::NoFile { name } => Line::Refused(Refusal::NoFile { name }),
+        ManifestError::NoMemory => Line::NoMemory,
     }
 }
 
@@ -149,16 +143,18 @@ pub(crate) fn term_line<A: Archive, S: BlobSource<A>>(
     source: &mut S,
     manifest: &str,
     field: &str,
-    term: &str,
+    value: &str,
 ) -> Line
-    ensures allowed { IsAllowed A.tells (plain A.blobs (record { manifest = manifest.now; field = field.now; term = term.now }))
+    ensures allowed { IsAllowed A.tells (plain A.blobs (record { manifest = manifest.now; field = field.now; term = value.now }))
         (S.faults source.old) (S.faults source.new) result }
     ensures same { S.which source.new ≡ S.which source.old }
 {
     match load::<A, S>(alloc, source, manifest) {
-        Ok((number, loaded)) => manifest_line::<A, S>(alloc, source, number, &loaded, field, term),
-        Err(LoadError::Missing) => Line::Missing,
-        Err(LoadError::Manifest(_)) => Line::Form,
+        Ok((number, loaded)) => {
+            manifest_line::<A, S>(alloc, source, number, &loaded, field, value)
+        }
+        Err(LoadError::Missing) => Line::Refused(Refusal::Missing),
+        Err(LoadError::Manifest(e)) => error_line(e),
         Err(LoadError::Fault) => Line::Fault,
         Err(LoadError::NoMemory) => Line::NoMemory,
     }

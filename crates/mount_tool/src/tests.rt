@@ -38,6 +38,14 @@ const MANIFEST_Y: &[u8] =
 const MANIFEST_W: &[u8] =
     b"{\"version\":1,\"files\":[{\"name\":\"__w\",\"physical_name\":\"_0.pst\",\"length\":136}],\"segments\":[{\"name\":\"_0\",\"docs\":3,\"postings\":\"_0.pst\"}]}";
 
+const MANIFEST_Z: &[u8] =
+    b"{\"version\":1,\"files\":[{\"name\":\"__a\",\"physical_name\":\"_0.pst\",\"length\":172,\"part_size\":100},{\"name\":\"__c\",\"physical_name\":\"_0.fld\",\"length\":111},{\"name\":\"__d\",\"physical_name\":\"_0_1.liv\",\"length\":57}],\"segments\":[{\"name\":\"_0\",\"docs\":3,\"postings\":\"_0.pst\",\"stored\":\"_0.fld\",\"live\":\"_0_1.liv\"}]}";
+
+const STORED_Z: &[u8] =
+    b"doc 0\n  field 0\n    name title\n    type string\n    value red fox\ndoc 1\ndoc 2\nEND\nchecksum 00000000000000000000\n";
+
+const LIVE_Z: &[u8] = b"size 3\n  doc 0\n  doc 2\nEND\nchecksum 00000000000000000000\n";
+
 const PART_0: &[u8] =
     b"field body\n  term fox\n    doc 0\n      freq 1\n      pos 1\n    doc 2\n      freq 1\n      pos 0\n  term r";
 
@@ -75,10 +83,13 @@ fn worked_blobs(alloc: Global) -> Result<Blobs, AllocError>
     add(alloc, &mut blobs, b"__a.part0", Text::of(alloc, PART_0)?)?;
     add(alloc, &mut blobs, b"__a.part1", Text::of(alloc, PART_1)?)?;
     add(alloc, &mut blobs, b"__b", counting(alloc, 10_000)?)?;
+    add(alloc, &mut blobs, b"__c", Text::of(alloc, STORED_Z)?)?;
+    add(alloc, &mut blobs, b"__d", Text::of(alloc, LIVE_Z)?)?;
     add(alloc, &mut blobs, b"__w", Text::of(alloc, POSTINGS_W)?)?;
     add(alloc, &mut blobs, b"mount-w", Text::of(alloc, MANIFEST_W)?)?;
     add(alloc, &mut blobs, b"mount-x", Text::of(alloc, MANIFEST_X)?)?;
     add(alloc, &mut blobs, b"mount-y", Text::of(alloc, MANIFEST_Y)?)?;
+    add(alloc, &mut blobs, b"mount-z", Text::of(alloc, MANIFEST_Z)?)?;
     Ok(blobs)
 }
 
@@ -118,12 +129,13 @@ fn searched(
 #[test]
 fn the_sample_archive(rt: HostRuntime) -> Result<(), AllocError> {
     let alloc = rt.alloc();
-    for step in [1, 7, 65_536] {
+    for step in [1, 2, 7, 65_536] {
         for (manifest, wanted, status) in [
             ("mount-w", "hits 2 _0/0 _0/2\n", 0),
             ("mount-q", "refused missing\n", 1),
-            ("mount-x", "refused form\n", 1),
-            ("mount-y", "refused form\n", 1),
+            ("mount-x", "hits 2 _0/0 _0/2\n", 0),
+            ("mount-y", "hits 0\n", 0),
+            ("mount-z", "hits 2 _0/0 _0/2\n", 0),
         ] {
             let (answer, sink) = searched(alloc, manifest, step, Vec::new(alloc), Vec::new(alloc))?;
             assert_eq!(rt; answer, status, "{manifest}");
@@ -208,24 +220,25 @@ const NO_FILE: &[u8] =
     b"{\"version\":1,\"files\":[{\"name\":\"__a\",\"physical_name\":\"p\",\"length\":34}],\"segments\":[{\"name\":\"s\",\"docs\":1,\"postings\":\"g\"}]}";
 
 #[test]
-fn forms_that_are_refused(rt: HostRuntime) -> Result<(), AllocError> {
+fn refusals(rt: HostRuntime) -> Result<(), AllocError> {
     let alloc = rt.alloc();
     let (answer, sink) = answered(alloc, PLAIN, Some(EMPTY))?;
     assert_eq!(rt; answer, 0);
     assert_eq!(rt; sink.written(), b"hits 0\n".as_slice());
-    let none = [
-        answered(alloc, LIVE, Some(EMPTY))?,
-        answered(alloc, PLAIN, None)?,
-        answered(alloc, PLAIN, Some(CUT_OFF))?,
-        answered(alloc, b"{", Some(EMPTY))?,
-        answered(alloc, b"{\"version\":2}", Some(EMPTY))?,
-        answered(alloc, LONG, Some(EMPTY))?,
-        answered(alloc, DOUBLE, Some(EMPTY))?,
-        answered(alloc, NO_FILE, Some(EMPTY))?,
+    let rows: [(&[u8], Option<&[u8]>, &str); 8] = [
+        (b"{", None, "refused json\n"),
+        (b"{\"version\":2}", None, "refused shape version\n"),
+        (LONG, None, "refused limit length\n"),
+        (DOUBLE, None, "refused double p\n"),
+        (NO_FILE, None, "refused nofile g\n"),
+        (PLAIN, None, "refused part __a\n"),
+        (PLAIN, Some(CUT_OFF), "refused size __a\n"),
+        (LIVE, Some(EMPTY), "bad shard p 0\n"),
     ];
-    for (answer, sink) in &none {
-        assert_eq!(rt; *answer, 1);
-        assert_eq!(rt; sink.written(), b"refused form\n".as_slice());
+    for (manifest, part, wanted) in rows {
+        let (answer, sink) = answered(alloc, manifest, part)?;
+        assert_eq!(rt; answer, 1);
+        assert_eq!(rt; sink.written(), wanted.as_bytes());
     }
     Ok(())
 }

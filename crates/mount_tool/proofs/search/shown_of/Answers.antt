@@ -1,9 +1,11 @@
 use Rattle.std.proofs.Common.{rules}
-use Rattle.mount_tool.proofs.Matching.{shown_next, shown_all}
+use Rattle.mount_tool.proofs.Showing.{segment_there, shown_next}
 use Rattle.mount_tool.proofs.search.shown_of.Goals as goal
 
-pub loop-i-preserved : goal.loop-i-preserved
-loop-i-preserved c = shown_next c.args.segment.now c.args.docs.now c.loop-i.i _ _ (search rules) c.loop-i.invariant (search rules)
+pub segment-segment-requires : goal.segment-segment-requires
+segment-segment-requires c = segment_there c.args.shard.now.segments c.args.hits.now c.loop-i.i c.get-hit.result.now c.requires c.get-hit.ensures
 
-pub returns : goal.returns
-returns c = shown_all c.args.segment.now c.args.docs.now c.loop-i.i _ (search rules) c.loop-i.invariant
+pub loop-i-preserved : goal.loop-i-preserved
+loop-i-preserved c =
+    shown_next c.args.shard.now.segments c.args.hits.now c.loop-i.i c.get-hit.result.now c.segment-segment.result.now c.loop-i.shown c.push.new.self c.in_ok-clone.field-0
+    c.get-hit.ensures c.segment-segment.ensures.value (search rules) c.loop-i.invariant c.in_ok-push.ensures.ok
