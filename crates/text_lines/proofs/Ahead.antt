@@ -1,7 +1,11 @@
 -- What is read ahead, and the bytes behind it.
-use Rattle.std.proofs.Common.{◌≡◌, subst, false, ℕ, zero, suc, ◌+◌, ◌-◌, ◌≤◌, ◌∙◌, ap, ap₂, sym, refl, arith, Bool, List, [], ◌∷◌, ◌++◌, length, take, drop, min}
+use Rattle.std.proofs.Common.{◌≡◌, subst, true, false, ℕ, zero, suc, ◌+◌, ◌-◌, ◌≤◌, ◌<◌, ◌∙◌, ap, ap₂, sym, refl, arith, append_assoc, get_or, Bool, List, [], ◌∷◌, ◌++◌, length, take, drop, min}
 use Rattle.std.specs.Prelude.{IsTrue, Option, Some, None}
 use Rattle.std.proofs.lemmas.List.{drop-take, take-append-drop, length-take, length-drop}
+use Rattle.std.specs.Prelude.{slice_index, if◌then◌else◌}
+use Rattle.std.proofs.Common.{inl, inr, ◌⊎◌}
+use Rattle.std.proofs.lemmas.Bool.{true≢false, cases_eq}
+use Rattle.memchr.specs.Find.{Nowhere, Passes, places_from}
 use Rattle.directory_input.specs.Reads.{Read, slice_of}
 use Rattle.directory_input.specs.Windows.{Window, FitsFile, moved_to, window_bytes}
 use Rattle.directory_input.proofs.Slices.{drop_drop}
@@ -10,6 +14,10 @@ use Rattle.directory_input.specs.declared.files.BytesError.{BytesError}
 use Rattle.directory_input.specs.declared.files.BytesError.TheVariants.{Fault, Gone, NoMemory}
 use Rattle.text_lines.specs.declared.reader.LineError.{LineError}
 use Rattle.text_lines.specs.declared.reader.LineError.TheVariants.{Unended, TooLong, Bytes}
+use Rattle.text_lines.specs.Escapes.{newline}
+use Rattle.text_lines.specs.Lines.{cut}
+use Rattle.text_lines.specs.Walks.{taken, then_lines, front, Lands}
+use Rattle.text_lines.proofs.Cuts.{IsPlain, begins, to_newline}
 use Rattle.text_lines.specs.Readers.{Reading, FitsBytes, ArePieces, ReadsPieces, IsOfBytes, Names, Refuses}
 
 drop_append : (n : ℕ) (xs ys : List ℕ) → n ≤ length xs → drop n (xs ++ ys) ≡ drop n xs ++ ys
@@ -153,3 +161,53 @@ pub refuses_of_bytes : (text : List ℕ) (e : LineError) → IsOfBytes e → Ref
 refuses_of_bytes text (Bytes e) h = tt
 refuses_of_bytes text (Unended p) h = absurd h
 refuses_of_bytes text (TooLong p) h = absurd h
+
+-- a newline among the first m bytes, with no newline and no backslash before it
+pub near_newline : (c : List ℕ) (k m : ℕ) (b u : List ℕ) (i : ℕ) → i < length (take m b) → IsPlain (take m b) i → get_or (take m b) i 0 ≡ newline
+    → front c k (cut (b ++ u)) ≡ then_lines (taken (c ++ take i (take m b)) (k + (i + 1))) (cut (drop (i + 1) b ++ u))
+near_newline c k m b u i inside plain is =
+    let near = take m b in
+    let far = drop m b in
+    let le : i + 1 ≤ length near = omega (arith, inside) in
+    let whole : near ++ (far ++ u) ≡ b ++ u = sym (append_assoc near far u) ∙ ap (λ x. x ++ u) (take-append-drop m b) in
+    let left : drop (i + 1) near ++ (far ++ u) ≡ drop (i + 1) b ++ u =
+    sym (append_assoc (drop (i + 1) near) far u) ∙ ap (λ x. x ++ u) (sym (drop_append (i + 1) near far le) ∙ ap (drop (i + 1)) (take-append-drop m b)) in
+    ap (λ x. front c k (cut x)) (sym whole)
+    ∙ to_newline c k near (far ++ u) i inside plain is
+    ∙ ap (λ x. then_lines (taken (c ++ take i near) (k + (i + 1))) (cut x)) left
+
+-- a line that is taken at once from the front of what was read ahead
+pub near_line : (at used : ℕ) (ahead text content : List ℕ) → used ≤ length ahead → ahead ++ drop (at + length ahead) text ≡ drop at text
+    → ((u : List ℕ) → Lands true false false [] content used (ahead ++ u) (drop used ahead ++ u))
+    → cut (drop at text) ≡ then_lines (taken content used) (cut (drop (at + used) text))
+near_line at used ahead text content le is lands =
+    let far = drop (at + length ahead) text in
+    let e : 0 + used ≡ used = omega arith in
+    begins (drop at text)
+    ∙ ap (λ x. front [] 0 (cut x)) (sym is)
+    ∙ lands far 0
+    ∙ ap₂ (λ n x. then_lines (taken content n) (cut x)) e (rest_after at used ahead text le is)
+
+nowhere_before : (test : ℕ → Bool) (hay : List ℕ) (i x : ℕ) → test (slice_index hay i) ≡ false → Nowhere (Passes test hay) (i + 1) x → Nowhere (Passes test hay) i x
+nowhere_before test hay i x e later k low below passes = by_cases (cases_eq k i)
+  where
+    by_cases : ((k ≡ i) ⊎ (k ≡ i → ⊥)) → ⊥
+    by_cases (inl same) = true≢false (sym passes ∙ ap (λ j. test (slice_index hay j)) same ∙ e)
+    by_cases (inr other) = later k (omega (arith, low, other)) below passes
+
+-- the first of the places where a byte passes a test
+pub first_place : (test : ℕ → Bool) (hay : List ℕ) (i n x : ℕ) (rest : List ℕ) → places_from test hay i n ≡ x ∷ rest
+    → (i ≤ x) × (x < i + n) × Nowhere (Passes test hay) i x
+unfolding places_from
+first_place test hay i zero x rest h = absurd (cc)
+first_place test hay i (suc n) x rest h = by_cases (test (slice_index hay i)) refl h (λ is. first_place test hay (i + 1) n x rest is)
+  where
+    by_cases : (b : Bool) → test (slice_index hay i) ≡ b → (if b then i ∷ places_from test hay (i + 1) n else places_from test hay (i + 1) n) ≡ x ∷ rest
+        → (places_from test hay (i + 1) n ≡ x ∷ rest → (i + 1 ≤ x) × (x < i + 1 + n) × Nowhere (Passes test hay) (i + 1) x)
+        → (i ≤ x) × (x < i + suc n) × Nowhere (Passes test hay) i x
+    by_cases true e is later_gives =
+        let at : i ≡ x = cc in
+        (omega (arith, at), omega (arith, at), (λ k low below. absurd (omega (arith, at, low, below))))
+    by_cases false e is later_gives =
+        let later = later_gives is in
+        (omega (arith, later.0), omega (arith, later.1), nowhere_before test hay i x e later.2)

@@ -1,5 +1,5 @@
 -- The lines of a text from a place inside a line on.
-use Rattle.std.specs.Prelude.{ℕ, ◌≡◌, ◌+◌, Bool, true, false, List, [], ◌∷◌, ◌++◌}
+use Rattle.std.specs.Prelude.{ℕ, ◌≡◌, ◌<◌, ◌≤◌, ◌+◌, Bool, true, false, List, [], ◌∷◌, ◌++◌, length, drop, Option, Some, None}
 use Rattle.text_lines.specs.Escapes.{backslash}
 use Rattle.text_lines.specs.Lines.{Taken, Cut, cut}
 
@@ -38,3 +38,9 @@ Lands true slash_before slash_now before now used bytes left =
     (k : ℕ) → front before k (cut_after slash_before bytes) ≡ then_lines (taken now (k + used)) (cut left)
 Lands false slash_before slash_now before now used bytes left =
     (k : ℕ) → front before k (cut_after slash_before bytes) ≡ front now (k + used) (cut_after slash_now left)
+
+-- a whole line of so many bytes, at most 32, is taken from the front of these bytes, if one is
+abbrev pub TakesNear : Option ℕ → (before now bytes : List ℕ) → Type 0
+TakesNear None before now bytes = now ≡ before
+TakesNear (Some n) before now bytes =
+    (0 < n) × (n ≤ 32) × (n ≤ length bytes) × ((u : List ℕ) → Lands true false false before now n (bytes ++ u) (drop n bytes ++ u))

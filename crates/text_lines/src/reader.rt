@@ -5,7 +5,7 @@ ghost use Rattle.directory_input.specs.Reads.{one_read, slice_of};
 ghost use Rattle.directory_input.specs.Causes.{HasBytesCause, refusal};
 ghost use Rattle.text_lines.specs.Readers.{Reading, FitsBytes, ReadsPieces, GivesLine, Places, Moved, Steps, Came, HasMore, IsOfBytes, rest, line_answer, line_of, line_refusal};
 
-use crate::steps::{Step, take_step};
+use crate::steps::{Step, take_near, take_step};
 use byte_text::Text;
 use directory_input::{BytesError, FileBytes, Input, InputError};
 use std::alloc::{AllocError, Global};
@@ -228,8 +228,9 @@ impl LineReader {
         Ok(Some(step))
     }
 
-    /// Reads the line that begins here; false where the input has ended. After a refusal it may stand anywhere.
-    fn read_line<B: FileBytes>(
+    /// `read_line` for any line, step by step. It is never inlined, so that the common line pays for none of it.
+    #[inline(never)]
+    fn walk_line<B: FileBytes>(
         &mut self,
         bytes: &mut B,
         content: &mut Text,
@@ -264,6 +265,29 @@ impl LineReader {
                 Err(e) => return Err(e),
             }
         }
+    }
+
+    /// Reads the line that begins here; false where the input has ended. After a refusal it may stand anywhere.
+    fn read_line<B: FileBytes>(
+        &mut self,
+        bytes: &mut B,
+        content: &mut Text,
+    ) -> Result<bool, LineError>
+        requires fits { FitsBytes (B.count bytes.old) (B.length_of bytes.old) (B.tells bytes.old) (B.bytes bytes.old) self.old }
+        requires empty { content.old ≡ [] }
+        ensures came { Came result self.old.input.position self.new.input.position self.old.input.size }
+        ensures input { self.new.input ≡ moved_to self.new.input.position self.old.input }
+        ensures told { IsTrue (B.tells bytes.old) → GivesLine (line_answer result (line_of self.old.input.position content.new)) (rest (B.bytes bytes.old) self.old.input) (rest (B.bytes bytes.old) self.new.input) self.old.input.position self.new.input.position }
+        ensures fits { FitsBytes (B.count bytes.new) (B.length_of bytes.new) (B.tells bytes.new) (B.bytes bytes.new) self.new }
+        ensures pieces { ReadsPieces B.goes_by self.old.input bytes.old bytes.new }
+        ensures goes { B.goes_on bytes.old bytes.new }
+        ensures cause { HasBytesCause (B.faults bytes.old) (B.faults bytes.new) (B.mount bytes.old) (B.gone bytes.new) (B.wanted bytes.old) (B.wanted bytes.new) (line_refusal result) }
+    {
+        if let Some(used) = take_near(self.unread(), content)? {
+            self.skip(used);
+            return Ok(true);
+        }
+        self.walk_line(bytes, content)
     }
 
     /// Puts the next line into `line`, whose room is used again; false exactly where the input has ended. `TooLong` comes

@@ -4,7 +4,7 @@ use Rattle.directory_input.specs.Windows.{moved_to}
 use Rattle.text_lines.specs.Lines.{cut}
 use Rattle.text_lines.specs.Walks.{front, cut_after}
 use Rattle.text_lines.specs.Readers.{FitsBytes, ReadsPieces, rest}
-use Rattle.text_lines.proofs.reader.LineReader.read_line.Given as goal
+use Rattle.text_lines.proofs.reader.LineReader.walk_line.Given as goal
 
 abbrev pub invariant-loop-step : goal.invariant-loop-step
 invariant-loop-step g l =
