@@ -1,5 +1,5 @@
 // The shape of a line: its form, without the name that it may have.
-ghost use Rattle.std.specs.Prelude.{◌≡◌, ◌≤◌, ℕ, List, false, codes, length, drop};
+ghost use Rattle.std.specs.Prelude.{◌≡◌, ◌≤◌, ℕ, List, false, IsTrue, codes, length, drop};
 ghost use Rattle.text_lines.specs.Words.{begins};
 ghost use Rattle.simpletext_postings.specs.Postings.{form_of, doc_of, freq_of, pos_of, start_of, end_of};
 ghost use Rattle.simpletext_postings.specs.Shapes.{form_with, HasName};
@@ -30,6 +30,18 @@ pub fn behind_mark(s: &[u8], n: usize) -> &[u8]
     ensures { result.now ≡ drop n s.now }
 {
     &s[n..]
+}
+
+/// Whether a line begins with this mark. The mark's length is a part of its type, so that the compiler compares a word or
+/// two in place and calls nothing.
+fn has_mark<const N: usize>(s: &[u8], mark: &[u8; N]) -> bool
+    ensures bound { IsTrue result → N ≤ length s.now }
+    ensures value { result ≡ begins mark.now s.now }
+{
+    match s.first_chunk::<N>() {
+        Some(front) => mark == front,
+        None => false,
+    }
 }
 
 fn doc_shape(number: Option<u32>) -> Shape
@@ -93,16 +105,16 @@ fn rarer_shape(s: &[u8]) -> Shape
     ensures form { form_with result s.now ≡ form_of s.now }
     ensures name { HasName result s.now }
 {
-    if s.starts_with(b"      startOffset ") {
+    if has_mark(s, b"      startOffset ") {
         return start_shape(number(behind_mark(s, 18)));
     }
-    if s.starts_with(b"      endOffset ") {
+    if has_mark(s, b"      endOffset ") {
         return end_shape(number(behind_mark(s, 16)));
     }
-    if s.starts_with(b"        payload ") {
+    if has_mark(s, b"        payload ") {
         return Shape::Payload;
     }
-    if s.starts_with(b"    ") {
+    if has_mark(s, b"    ") {
         return Shape::Indented;
     }
     if s == b"END".as_slice() {
@@ -120,19 +132,19 @@ pub fn shape_of(s: &[u8]) -> Shape
     ensures form { form_with result s.now ≡ form_of s.now }
     ensures name { HasName result s.now }
 {
-    if s.starts_with(b"      pos ") {
+    if has_mark(s, b"      pos ") {
         return position_shape(number(behind_mark(s, 10)));
     }
-    if s.starts_with(b"    doc ") {
+    if has_mark(s, b"    doc ") {
         return doc_shape(number(behind_mark(s, 8)));
     }
-    if s.starts_with(b"      freq ") {
+    if has_mark(s, b"      freq ") {
         return frequency_shape(number(behind_mark(s, 11)));
     }
-    if s.starts_with(b"field ") {
+    if has_mark(s, b"field ") {
         return Shape::Field;
     }
-    if s.starts_with(b"  term ") {
+    if has_mark(s, b"  term ") {
         return Shape::Term;
     }
     rarer_shape(s)
