@@ -124,6 +124,10 @@ impl<'a, A: Archive + Drop, F: Frame + Drop> CacheDoor<A> for CoreDoor<'a, A, F>
         self.core.lesson();
     }
 
+    fn lesson(&self) {
+        self.core.lesson();
+    }
+
     ghost stays_same = { λ x. (refl, refl, later_same x.core.now) };
 
     ghost stays_on = { λ x y z a b. (b.0 ∙ a.0, b.1 ∙ a.1, later_on a.2 b.2) };

@@ -229,6 +229,10 @@ pub trait CacheDoor<A: Archive> {
         ensures state { state self.new ≡ option_map (unmount mount manifest) (state self.old) }
         ensures told { IfSome (state self.new) (Agrees A.tells (content A.blobs) (config self.new) (frames_tell self.new) (hold self.new) (actor self.new) (seen_gone self.new) (unmounted self.new)) };
 
+    /// What is told of the state of a door at rest. It does nothing.
+    fn lesson(&self)
+        ensures told { IfSome (state self.now) (Agrees A.tells (content A.blobs) (config self.now) (frames_tell self.now) (hold self.now) (actor self.now) (seen_gone self.now) (unmounted self.now)) };
+
     ghost stays_same: { (x : Self) → stays x x };
 
     ghost stays_on: { (x y z : Self) → stays x y → stays y z → stays x z };
