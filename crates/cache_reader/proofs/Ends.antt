@@ -1,0 +1,209 @@
+-- How a part ends.
+use Rattle.std.proofs.Common.{zero-add, arith, ◌≡◌, ◌<◌, ◌≤◌, ◌+◌, ◌-◌, ◌*◌, ℕ, List, [], ◌++◌, length, take, drop, Bool, true, false, Option, refl, ap, sym, subst, ◌∙◌, min}
+use Rattle.std.specs.Prelude.{IsTrue}
+use Rattle.std.proofs.Math.Nat.{mul-le-mul_left}
+use Rattle.std.proofs.lemmas.List.{length-append}
+use Rattle.cache_outside.specs.Causes.{Rose}
+use Rattle.blob_parts.specs.Takes.{Took}
+use Rattle.cache_door.specs.declared.work.Work.{Work}
+use Rattle.cache_reader.specs.declared.report.Report.{Report}
+use Rattle.cache_reader.specs.Reports.{joined, no_bytes, copied_bytes, fetched_bytes, direct_bytes, Grew, Counted}
+use Rattle.cache_reader.specs.Bounds.{Bounded, Worked}
+use Rattle.cache_reader.specs.Parts.{Line}
+use Rattle.cache_reader.specs.Going.{Moment, moment, Goes}
+use Rattle.cache_door.specs.Machine.{State}
+use Rattle.std.proofs.Math.Nat.{le_refl}
+use Rattle.cache_reader.specs.Filling.{Partly, Whole, PartGoes}
+use Rattle.cache_reader.proofs.Joins.{worked_none, goes_more, goes_none, counted_more, counted_none, took_none, took_both, bounded_more, rose_then}
+use Rattle.std.proofs.lemmas.List.{drop-drop, take-take, drop-take}
+use Rattle.blob_parts.specs.Content.{slice_of}
+use Rattle.cache_door.specs.Doors.{Works, turned_away_once}
+
+double : (range k : ℕ) → 2 * range * (k + 1) ≡ 2 * range * k + 2 * range
+double range k = grind arith
+
+-- turned away once or more: at most the range was taken and not stored, and at most the range was read directly
+pub away_bound : (range : ℕ) (old new : Work) (n count m : ℕ) → Rose old.turned_away new.turned_away → Grew old.stored new.stored count → count ≤ n → n ≤ range → m ≤ range → Bounded range old new (n + m)
+away_bound range old new n count m a grew low most direct s t =
+    let up : old.turned_away + 1 ≤ new.turned_away = omega (arith, a, t) in
+    let more : 2 * range * (old.turned_away + 1) ≤ 2 * range * new.turned_away = mul-le-mul_left (2 * range) up in
+    (omega (arith, grew.most, low), omega (arith, grew.later, more, double range old.turned_away, most, direct))
+
+-- not turned away, what was taken was stored
+pub same_bound : (range : ℕ) (old new : Work) (n : ℕ) → old.turned_away ≤ new.turned_away → Grew old.stored new.stored n → Bounded range old new n
+same_bound range old new n a grew s t =
+    let more : 2 * range * old.turned_away ≤ 2 * range * new.turned_away = mul-le-mul_left (2 * range) a in
+    (grew.most, omega (arith, grew.whole s, more))
+
+-- nothing was done, and refused
+pub part_none : (c : Line) (size : ℕ) (lacked : Bool) (r : Report) (x y : Moment) → Goes c no_bytes x y → y.taken ≡ x.taken → PartGoes c size false lacked r r x y
+part_none c size lacked r x y goes same = record {
+  counts = no_bytes;
+  report = counted_none r;
+  most = omega arith;
+  all = λ h. absurd (cc);
+  goes = goes;
+  takes = λ told. record { places = []; took = subst (λ t. Took x.taken t []) (sym same) (took_none x.taken); bound = λ a b. same_bound c.config.range x.work y.work 0 goes.work.turned goes.work.stored };
+}
+
+-- the part was copied
+pub part_copied : (c : Line) (size gap : ℕ) (lacked : Bool) (q r s : Report) (x y : Moment) → Whole c gap q r x y → Counted r s (copied_bytes size) → PartGoes c size true lacked q s x y
+part_copied c size gap lacked q r s x y h copied = record {
+  counts = joined (fetched_bytes gap) (copied_bytes size);
+  report = counted_more q r s (fetched_bytes gap) (copied_bytes size) h.report copied;
+  most = omega arith;
+  all = λ e. omega arith;
+  goes = record {
+    faults = h.goes.faults;
+    frame_faults = h.goes.frame_faults;
+    seen = h.goes.seen;
+    unmounted = h.goes.unmounted;
+    work = record { stored = subst (λ n. Grew x.work.stored y.work.stored n) (omega arith) h.goes.work.stored; turned = h.goes.work.turned; direct = λ some. absurd (omega (arith, some)); decays = h.goes.work.decays; clears = h.goes.work.clears };
+  };
+  takes = λ told. let took = h.took told in record {
+    places = took.0;
+    took = took.1;
+    bound = λ a b. subst (λ n. Bounded c.config.range x.work y.work n) (sym took.2) (same_bound c.config.range x.work y.work gap h.goes.work.turned h.goes.work.stored);
+  };
+}
+
+-- the source refused a piece
+pub part_refused : (c : Line) (size gap : ℕ) (lacked : Bool) (q r : Report) (x y : Moment) → Partly c gap q r x y → (lacked ≡ false → Rose x.faults y.faults) → PartGoes c size false lacked q r x y
+part_refused c size gap lacked q r x y h cause = record {
+  counts = fetched_bytes h.count;
+  report = h.report;
+  most = omega arith;
+  all = λ e. absurd (cc);
+  goes = h.goes;
+  takes = λ told. let took = h.took told in record { places = took.0; took = took.1; bound = λ unwanted calm. absurd (calm (cause unwanted)) };
+}
+
+-- the door turned the caller away, and the part was read past the cache, or that was refused
+pub part_direct : (c : Line) (size gap range : ℕ) (answered lacked : Bool) (q r s : Report) (x y z : Moment) → gap ≤ c.config.range → size ≤ c.config.range
+    → Partly c gap q r x y → Rose x.work.turned_away y.work.turned_away → z.work ≡ y.work → Goes c no_bytes y z
+    → (answered ≡ true → Counted r s (direct_bytes size)) → (answered ≡ false → s ≡ r) → (answered ≡ false → lacked ≡ false → Rose y.faults z.faults)
+    → (IsTrue c.tells → (ps : List (ℕ × ℕ)) × Took y.taken z.taken ps × (length ps ≤ size)) → PartGoes c size answered lacked q s x z
+part_direct c size gap range true lacked q r s x y z fits short h away same later count un cause took = record {
+  counts = joined (fetched_bytes h.count) (direct_bytes size);
+  report = counted_more q r s (fetched_bytes h.count) (direct_bytes size) h.report (count refl);
+  most = omega arith;
+  all = λ e. omega arith;
+  goes = record {
+    faults = omega (arith, h.goes.faults, later.faults);
+    frame_faults = omega (arith, h.goes.frame_faults, later.frame_faults);
+    seen = λ m g. later.seen m (h.goes.seen m g);
+    unmounted = later.unmounted ∙ h.goes.unmounted;
+    work = subst (λ (w : Work). Worked (joined (fetched_bytes h.count) (direct_bytes size)) x.work w) (sym same) (record { stored = subst (λ n. Grew x.work.stored y.work.stored n) (omega arith) h.goes.work.stored; turned = h.goes.work.turned; direct = λ some. away; decays = h.goes.work.decays; clears = h.goes.work.clears });
+  };
+  takes = λ told.
+      let first = h.took told in
+      let more = took told in
+      record {
+        places = first.0 ++ more.0;
+        took = took_both x.taken y.taken z.taken first.0 more.0 first.1 more.1;
+        bound = λ unwanted calm. rw (length-append first.0 more.0) (subst (λ (w : Work). Bounded c.config.range x.work w (length first.0 + length more.0)) (sym same)
+            (away_bound c.config.range x.work y.work (length first.0) h.count (length more.0) away h.goes.work.stored first.2 (omega (arith, first.3, fits)) (omega (arith, more.2, short))));
+      };
+}
+part_direct c size gap range false lacked q r s x y z fits short h away same later count un cause took = record {
+  counts = fetched_bytes h.count;
+  report = subst (λ (o : Report). Counted q o (fetched_bytes h.count)) (sym (un refl)) h.report;
+  most = omega arith;
+  all = λ e. absurd (cc);
+  goes = record {
+    faults = omega (arith, h.goes.faults, later.faults);
+    frame_faults = omega (arith, h.goes.frame_faults, later.frame_faults);
+    seen = λ m g. later.seen m (h.goes.seen m g);
+    unmounted = later.unmounted ∙ h.goes.unmounted;
+    work = subst (λ (w : Work). Worked (fetched_bytes h.count) x.work w) (sym same) h.goes.work;
+  };
+  takes = λ told.
+      let first = h.took told in
+      let more = took told in
+      record { places = first.0 ++ more.0; took = took_both x.taken y.taken z.taken first.0 more.0 first.1 more.1; bound = λ unwanted calm. absurd (calm (omega (arith, cause refl unwanted, h.goes.faults))) };
+}
+
+-- nothing is fetched yet
+pub partly_none : (c : Line) (r : Report) (x : Moment) → Partly c 0 r r x x
+partly_none c r x = record { count = 0; most = omega arith; goes = goes_none c x; report = counted_none r; took = λ told. ([], took_none x.taken, omega arith, omega arith) }
+
+pub whole_none : (c : Line) (r : Report) (x : Moment) → Whole c 0 r r x x
+whole_none c r x = record { goes = goes_none c x; report = counted_none r; took = λ told. ([], took_none x.taken, refl) }
+
+goes_then : (c : Line) (n : ℕ) (x y z : Moment) → Goes c (fetched_bytes n) x y → Goes c no_bytes y z → Goes c (fetched_bytes n) x z
+goes_then c n x y z h k = subst (λ m. Goes c (fetched_bytes m) x z) (omega arith) (goes_more c (fetched_bytes n) no_bytes x y z h k)
+
+-- and then the door did no work
+pub partly_then : (c : Line) (gap : ℕ) (q r : Report) (x y z : Moment) → Partly c gap q r x y → Goes c no_bytes y z → z.taken ≡ y.taken → Partly c gap q r x z
+partly_then c gap q r x y z h k same = record {
+  count = h.count;
+  most = h.most;
+  goes = goes_then c h.count x y z h.goes k;
+  report = h.report;
+  took = λ told. let t = h.took told in (t.0, subst (λ u. Took x.taken u t.0) (sym same) t.1, t.2, t.3);
+}
+
+pub whole_then : (c : Line) (gap : ℕ) (q r : Report) (x y z : Moment) → Whole c gap q r x y → Goes c no_bytes y z → z.taken ≡ y.taken → Whole c gap q r x z
+whole_then c gap q r x y z h k same = record {
+  goes = goes_then c gap x y z h.goes k;
+  report = h.report;
+  took = λ told. let t = h.took told in (t.0, subst (λ u. Took x.taken u t.0) (sym same) t.1, t.2);
+}
+
+none_joined : (m : Report) → joined no_bytes m ≡ m
+none_joined m = rw (zero-add m.hit, zero-add m.fetched, zero-add m.direct)
+
+-- the same, behind a call of the door that was no work of a reader
+pub part_after : (c : Line) (size : ℕ) (answered lacked : Bool) (q r : Report) (x y z : Moment) → Goes c no_bytes x y → y.taken ≡ x.taken → PartGoes c size answered lacked q r y z → PartGoes c size answered lacked q r x z
+part_after c size answered lacked q r x y z first same h = record {
+  counts = h.counts;
+  report = h.report;
+  most = h.most;
+  all = h.all;
+  goes = subst (λ (m : Report). Goes c m x z) (none_joined h.counts) (goes_more c no_bytes h.counts x y z first h.goes);
+  takes = λ told. let t = h.takes told in record {
+    places = t.places;
+    took = subst (λ u. Took u z.taken t.places) same t.took;
+    bound = λ unwanted calm. subst (λ n. Bounded c.config.range x.work z.work n) (zero-add (length t.places)) (bounded_more c.config.range x.work y.work z.work 0 (length t.places) h.goes.work.stored.later h.goes.work.turned
+        (same_bound c.config.range x.work y.work 0 first.work.turned first.work.stored) (t.bound unwanted (λ r. calm (rose_then x.faults y.faults z.faults first.faults r))));
+  };
+}
+
+-- the door turned the caller away in its entry
+pub worked_away : (a b : Work) → Works a b turned_away_once → Worked no_bytes a b
+worked_away a b h =
+    let sv : b.stored ≡ min (a.stored + 0) 18446744073709551615 = h.stored.value in
+    let dv : b.decays ≡ min (a.decays + 0) 18446744073709551615 = h.decays.value in
+    let cv : b.clears ≡ min (a.clears + 0) 18446744073709551615 = h.clears.value in record {
+      stored = record { later = h.stored.later; most = omega (arith, sv); whole = λ less. let few : b.stored < 18446744073709551615 = less in omega (arith, sv, few) };
+      turned = h.turned_away.later;
+      direct = λ some. absurd (omega arith);
+      decays = omega (arith, dv, h.decays.later);
+      clears = omega (arith, cv, h.clears.later);
+    }
+
+pub rose_away : (a b : Work) → Works a b turned_away_once → Rose a.turned_away b.turned_away
+rose_away a b h = let v : b.turned_away ≡ min (a.turned_away + 1) 18446744073709551615 = h.turned_away.value in omega (arith, v)
+
+pub partly_of : (c : Line) (r : Report) (x y : Moment) → Goes c no_bytes x y → y.taken ≡ x.taken → Partly c 0 r r x y
+partly_of c r x y goes same = record { count = 0; most = omega arith; goes = goes; report = counted_none r; took = λ told. ([], subst (λ t. Took x.taken t []) (sym same) (took_none x.taken), omega arith, omega arith) }
+
+-- some bytes of some bytes
+pub slice_slice : {X : Type 0} (xs : List X) (at size from n : ℕ) → from + n ≤ size → slice_of (slice_of xs at size) from n ≡ slice_of xs (at + from) n
+slice_slice xs at size from n h =
+    let split : size ≡ from + (size - from) = omega (arith, h) in
+    ap (λ s. take n (drop from (take s (drop at xs)))) split
+    ∙ ap (take n) (drop-take from (size - from) (drop at xs))
+    ∙ take-take n (size - from) (drop from (drop at xs)) (omega (arith, h))
+    ∙ ap (take n) (drop-drop from at xs)
+
+-- the bytes of a region's part, as bytes of the file
+pub region_slice : (files : ℕ → ℕ → List ℕ) (m f own_m own_f part size start end base at n : ℕ) → own_m ≡ m → own_f ≡ f → base ≡ part * size → at ≡ base + start → n ≡ end - start → start < end → end ≤ size
+    → slice_of (slice_of (files own_m own_f) (part * size) size) start (end - start) ≡ slice_of (files m f) at n
+region_slice files m f own_m own_f part size start end base at n a b d e g less most =
+    let place : part * size + start ≡ at = omega (arith, d, e) in
+    slice_slice (files own_m own_f) (part * size) size start (end - start) (omega (arith, less, most)) ∙ cc (place, a, b, g)
+
+-- a call of the source alone
+pub source_step : (c : Line) (a b frames : ℕ) (t u : Option (List (ℕ × ℕ × ℕ))) (seen unmounted : ℕ → Bool) (w : Work) (s : Option State) → a ≤ b → Goes c no_bytes (moment a t frames seen unmounted w s) (moment b u frames seen unmounted w s)
+source_step c a b frames t u seen unmounted w s le = record { faults = le; frame_faults = le_refl frames; seen = λ m h. h; unmounted = refl; work = worked_none w }

@@ -1,0 +1,318 @@
+-- A part whose bytes are all present in the region that its key is mapped to: an entry claims nothing, and leaving gives the state back.
+use Rattle.std.proofs.Common.{arith, ◌≡◌, ◌<◌, ◌≤◌, ◌+◌, ◌-◌, ◌*◌, ◌/◌, ℕ, zero, suc, Bool, true, false, List, [], ◌∷◌, ◌++◌, sym, subst, ◌∙◌, ap, inl, inr, refl, length, take, drop, set, get_or, Option, Some, None, length-drop, length-take}
+use Rattle.std.specs.Prelude.{◌==◌, ◌&&◌, nat_lt, nat_le, max, not, map, reverse, slice_get, slice_range, option_and_then, IsTrue}
+use Rattle.std.specs.List.{prefix_len, position_from, list_all}
+use Rattle.std.proofs.lemmas.Bool.{cases_Bool, cases_lt, false≢true}
+use Rattle.std.proofs.lemmas.Bool.Decides.{nat_tests}
+use Rattle.std.proofs.lemmas.List.{get_or-drop, get_or-take, get_or-reverse, get_or-set_same}
+use Rattle.std.proofs.lemmas.List.Sums.{prefix_len_passes, prefix_len_stops}
+use Rattle.region_ranges.specs.declared.ranges.ByteRange.{ByteRange}
+use Rattle.region_ranges.specs.Keys.{tag_of}
+use Rattle.region_ranges.specs.Ranges.{first_run}
+use Rattle.sparse_tracker.specs.declared.tickets.Ticket.{Ticket}
+use Rattle.sparse_tracker.specs.Letters as letters
+use Rattle.sparse_tracker.specs.Letters.{Letter, absent, pending, present, Tracker, is_absent, is_present, not_behind, least_unused, numbers, new_ticket, with_ticket, without_ticket, open_gap_at}
+use Rattle.sparse_tracker.specs.Weights.{total}
+use Rattle.cache_policy.specs.Policy.{PolicyView, find, is_tag}
+use Rattle.region_cell.specs.Cells as cells
+use Rattle.region_cell.specs.Cells.{Region, claim_run, range_round, len_of, are_present, region_bytes}
+use Rattle.cache_door.specs.declared.answers.Want.{Want}
+use Rattle.cache_door.specs.declared.answers.Entered.{Entered}
+use Rattle.cache_door.specs.declared.answers.Entered.TheVariants.{Held}
+use Rattle.cache_door.specs.declared.answers.Glance.TheVariants as glance
+use Rattle.cache_door.specs.declared.hold.Hold.{Hold}
+use Rattle.cache_door.specs.Machine as machine
+use Rattle.cache_door.specs.Machine.{State, Cell, cell_at, hold_at, no_cell, hold_on, enter, leave, look, look_at}
+use Rattle.cache_door.specs.Good.{Good, weigh_hold, hold_ticket}
+use Rattle.cache_door.specs.Doors.{IsWant, HasLength}
+use Rattle.cache_door.specs.Takes.{want_of, visit, taken_by, after, spread_over}
+use Rattle.cache_reader.specs.declared.part.Last.{Last}
+use Rattle.cache_reader.specs.Parts.{Line, bytes_of, places_of}
+use Rattle.cache_reader.specs.Alone.{Fits, Went, went_part, stood, entry_of, fetched_by, direct_by}
+use Rattle.cache_reader.proofs.Rooms.{found_inside}
+
+some_none : {X : Type 0} {x : X} → None ≡ Some x → ⊥
+some_none e = cc
+
+-- ---- flags of letters
+
+abbrev flag : List Letter → ℕ → Bool
+flag ls i = get_or (map is_absent ls) i false
+
+flag_present : (ls : List Letter) (i : ℕ) → list_all is_present ls ≡ true → flag ls i ≡ false
+flag_present [] i e = refl
+flag_present (absent ∷ ls) i e = absurd (false≢true e)
+flag_present (pending g ∷ ls) i e = absurd (false≢true e)
+flag_present (present ∷ ls) zero e = refl
+flag_present (present ∷ ls) (suc i) e = flag_present ls i e
+
+flag_take : (k i : ℕ) (ls : List Letter) → i < k → flag (take k ls) i ≡ flag ls i
+flag_take zero i ls h = absurd (omega (arith, h))
+flag_take (suc k) i [] h = refl
+flag_take (suc k) zero (l ∷ ls) h = refl
+flag_take (suc k) (suc i) (l ∷ ls) h = flag_take k i ls (omega (arith, h))
+
+flag_past : (k i : ℕ) (ls : List Letter) → k ≤ i → flag (take k ls) i ≡ false
+flag_past zero i ls h = refl
+flag_past (suc k) i [] h = refl
+flag_past (suc k) zero (l ∷ ls) h = absurd (omega (arith, h))
+flag_past (suc k) (suc i) (l ∷ ls) h = flag_past k i ls (omega (arith, h))
+
+flag_drop : (k i j : ℕ) (ls : List Letter) → j ≡ k + i → flag (drop k ls) i ≡ flag ls j
+flag_drop zero i j ls e = let f : i ≡ j = omega (arith, e) in ap (λ n. flag ls n) f
+flag_drop (suc k) i j [] e = refl
+flag_drop (suc k) i zero (l ∷ ls) e = absurd (omega (arith, e))
+flag_drop (suc k) i (suc j) (l ∷ ls) e = flag_drop k i j ls (omega (arith, e))
+
+-- where all letters of a sub-range are present none of its flags is set
+flag_clear : (ls : List Letter) (start end n i : ℕ) → list_all is_present (slice_range ls start end) ≡ true → start ≤ i → i < end → i < n → flag (take n ls) i ≡ false
+flag_clear ls start end n i e low high most =
+    flag_take n i ls most
+    ∙ sym (flag_drop start (i - start) i ls (omega (arith, low)))
+    ∙ sym (flag_take (end - start) (i - start) (drop start ls) (omega (arith, low, high)))
+    ∙ flag_present (slice_range ls start end) (i - start) e
+
+-- ---- the first run lies behind the sub-range
+
+flip : (b : Bool) → not b ≡ true → b ≡ false
+flip true h = absurd (cc)
+flip false h = refl
+
+flop : (b : Bool) → not b ≡ false → b ≡ true
+flop true h = refl
+flop false h = absurd (cc)
+
+module _ (free : List Bool) (start : ℕ) (sub : ByteRange) (low : start ≤ sub.start) (some : sub.start < sub.end) (clear : (i : ℕ) → sub.start ≤ i → i < sub.end → get_or free i false ≡ false) where
+  abbrev count : ℕ
+  count = prefix_len not (drop (max sub.start start) free)
+
+  abbrev first : ℕ
+  first = max sub.start start + prefix_len not (drop (max sub.start start) free)
+
+  skipped : (i : ℕ) → max sub.start start ≤ i → i < first → get_or free i false ≡ false
+  skipped i a b =
+      let p = prefix_len_passes not (drop (max sub.start start) free) (i - max sub.start start) false (omega arith) in
+      let s : max sub.start start + (i - max sub.start start) ≡ i = omega arith in
+      let q = get_or-drop (max sub.start start) free (i - max sub.start start) false in
+      flip (get_or free i false) (ap (λ (k : ℕ). not (get_or free k false)) (sym s) ∙ ap not (sym q) ∙ p)
+
+  reached : first < length free → get_or free first false ≡ true
+  reached h =
+      let l : length (drop (max sub.start start) free) ≡ length free - max sub.start start = length-drop (max sub.start start) free in
+      let p = prefix_len_stops not (drop (max sub.start start) free) false (omega (arith, l, h)) in
+      let q = get_or-drop (max sub.start start) free (prefix_len not (drop (max sub.start start) free)) false in
+      flop (get_or free first false) (ap not (sym q) ∙ p)
+
+  behind : first < length free → sub.end ≤ first
+  behind h = elim (cases_lt first sub.end) [
+    | inr g ↦ g
+    | inl l ↦ absurd (false≢true (sym (clear first (omega arith) l) ∙ reached h))
+  ]
+
+  module _ (f : ℕ) (least : start ≤ f) (h : f < length free) where
+    length-back : length (drop start (take f free)) ≡ f - start
+    length-back = let t : length (take f free) ≡ f = length-take f free ∙ omega (arith, h) in length-drop start (take f free) ∙ ap (λ (k : ℕ). k - start) t
+
+    at_back : (i : ℕ) → i < f - start → get_or (reverse (drop start (take f free))) i false ≡ get_or free (f - 1 - i) false
+    at_back i k =
+        let xs = drop start (take f free) in
+        let l : length xs ≡ f - start = length-back in
+        get_or-reverse xs i false (omega (arith, l, k)) ∙ get_or-drop start (take f free) (length xs - 1 - i) false
+        ∙ get_or-take f free (start + (length xs - 1 - i)) false (omega (arith, l, k))
+        ∙ ap (λ (j : ℕ). get_or free j false) (let e : start + (length xs - 1 - i) ≡ f - 1 - i = omega (arith, l, k) in e)
+
+  -- the run does not begin before it was reached
+  none_back : first < length free → prefix_len (λ b. b) (reverse (drop start (take first free))) ≡ 0
+  none_back h =
+      let n = prefix_len (λ (b : Bool). b) (reverse (drop start (take first free))) in
+      elim (cases_lt 0 n) [
+        | inr z ↦ omega (arith, z)
+        | inl p ↦
+            let e = behind h in
+            let last = at_back first (omega (arith, e, low, some)) h 0 (omega (arith, e, low, some)) in
+            let t = prefix_len_passes (λ (b : Bool). b) (reverse (drop start (take first free))) 0 false p in
+            let c = skipped (first - 1 - 0) (omega (arith, e, low, some)) (omega (arith, e, some)) in
+            absurd (false≢true (sym c ∙ sym last ∙ t))
+      ]
+
+  nothing : not_behind sub (first_run free start sub.start) ≡ None
+  nothing = elim (cases_lt first (length free)) [
+    | inr h ↦ let t : nat_lt (max sub.start start + prefix_len not (drop (max sub.start start) free)) (length free) ≡ false = grind (arith, nat_tests) in rw t refl
+    | inl h ↦
+        let t : nat_lt (max sub.start start + prefix_len not (drop (max sub.start start) free)) (length free) ≡ true = grind (arith, nat_tests) in
+        let z = none_back h in
+        let e = behind h in
+        let m : sub.end ≤ first - 0 = omega (arith, e) in
+        let b : nat_lt (first - 0) sub.end ≡ false = grind (arith, nat_tests) in
+        rw t (rw z (rw b refl))
+  ]
+
+-- a claim over present bytes takes nothing
+claim_none : (range : ℕ) (sub : ByteRange) (c : Region) → 0 < range → sub.start < sub.end → are_present sub c ≡ true → claim_run range sub c ≡ None
+claim_none range sub c pos some e =
+    let round = range_round range sub c in
+    let free = map is_absent (take round.end c.tracker.letters) in
+    nothing free round.start sub (omega (arith, pos)) some (λ i low high. elim (cases_lt i round.end) [
+      | inl l ↦ flag_clear c.tracker.letters sub.start sub.end round.end i e low high l
+      | inr g ↦ flag_past round.end i c.tracker.letters g
+    ])
+
+-- ---- an entry that takes nothing, and the leave behind it
+
+set_same : {X : Type 0} (xs : List X) (i : ℕ) (d x : X) → get_or xs i d ≡ x → i < length xs → set xs i x ≡ xs
+set_same [] i d x e h = refl
+set_same (y ∷ ys) zero d x e h = ap (λ (z : _). z ∷ ys) (sym e)
+set_same (y ∷ ys) (suc i) d x e h = ap (λ (l : List _). y ∷ l) (set_same ys i d x e (omega (arith, h)))
+
+set_twice : {X : Type 0} (xs : List X) (i : ℕ) (x y : X) → set (set xs i x) i y ≡ set xs i y
+set_twice [] i x y = refl
+set_twice (z ∷ zs) zero x y = refl
+set_twice (z ∷ zs) (suc i) x y = ap (λ (l : List _). z ∷ l) (set_twice zs i x y)
+
+-- the ticket that came last is the only one
+without_new : (ts : List Ticket) (k : Ticket) → ts ≡ [] → without_ticket k.number (ts ++ k ∷ []) ≡ ts
+without_new [] k e = let y : (k.number == k.number) ≡ true = grind (arith, nat_tests) in rw y refl
+without_new (t ∷ ts) k e = absurd (cc)
+
+left_tracker : (sub : ByteRange) (t : Tracker) (o : Option ByteRange) → o ≡ None → t.tickets ≡ [] → letters.leave (least_unused (numbers t.tickets)) (with_ticket sub (open_gap_at o t)) ≡ t
+left_tracker sub t (Some run) n e = absurd (cc)
+left_tracker sub t None n e = ap (λ (l : List Ticket). let r : Tracker = record t { tickets = l } in r) (without_new t.tickets (new_ticket sub t) e)
+
+left_region : (range : ℕ) (sub : ByteRange) (c : Region) → claim_run range sub c ≡ None → c.tracker.tickets ≡ [] → cells.leave (least_unused (numbers c.tracker.tickets)) (cells.claim range sub c) ≡ c
+left_region range sub c n e = ap (λ (t : Tracker). let r : Region = record c { tracker = t } in r) (left_tracker sub c.tracker (claim_run range sub c) n e)
+
+hold_leave : (s : State) (a r : ℕ) (want : Want) → hold_at s a ≡ None → a < length s.holds → r < length s.cells → claim_run s.config.range want.sub (cell_at s r).region ≡ None → (cell_at s r).region.tracker.tickets ≡ []
+    → leave a (hold_at (machine.hold a r want s).1 a) (machine.hold a r want s).1 ≡ s
+hold_leave s a r want none actor inside run tickets =
+    let c = cell_at s r in
+    let k = hold_on s.config.range r want c.region in
+    let x : Cell = record { region = cells.claim s.config.range want.sub c.region; bytes = c.bytes } in
+    let u = (machine.hold a r want s).1 in
+    let held : hold_at u a ≡ Some k = get_or-set_same s.holds a (Some k) None actor in
+    let here : cell_at u r ≡ x = get_or-set_same s.cells r x no_cell inside in
+    let left : Cell → Cell = λ y. record { region = cells.leave k.ticket y.region; bytes = y.bytes } in
+    let back : left x ≡ c = ap (λ (g : Region). let y : Cell = record { region = g; bytes = c.bytes } in y) (left_region s.config.range want.sub c.region run tickets) in
+    let made : List Cell → List (Option Hold) → State = λ cs hs. record s { cells = cs; holds = hs } in
+    ap (λ (o : Option Hold). leave a o u) held
+    ∙ ap (λ (y : Cell). made (set (set s.cells r x) r (left y)) (set (set s.holds a (Some k)) a None)) here
+    ∙ ap (λ (y : Cell). made (set (set s.cells r x) r y) (set (set s.holds a (Some k)) a None)) back
+    ∙ ap (λ (l : List Cell). made l (set (set s.holds a (Some k)) a None)) (set_twice s.cells r x c ∙ set_same s.cells r no_cell c refl inside)
+    ∙ ap (λ (l : List (Option Hold)). made s.cells l) (set_twice s.holds a (Some k) None ∙ set_same s.holds a None None none actor)
+
+-- ---- a region that nobody holds has no tickets
+
+no_weight : {X : Type 0} (xs : List X) → total (λ (x : X). 1) xs ≡ 0 → xs ≡ []
+no_weight [] e = refl
+no_weight (x ∷ xs) e = absurd (omega (arith, e))
+
+none_total : {X : Type 0} (f : X → ℕ) (xs : List X) (a : ℕ) (d : X) → length xs ≡ 1 → a < length xs → f (get_or xs a d) ≡ 0 → total f xs ≡ 0
+none_total f [] a d l h e = absurd (omega (arith, l))
+none_total f (y ∷ []) zero d l h e = omega (arith, e)
+none_total f (y ∷ []) (suc a) d l h e = absurd (omega (arith, h))
+none_total f (y ∷ z ∷ zs) a d l h e = absurd (omega (arith, l))
+
+-- ---- what a look tells
+
+and_both : (a b : Bool) → (a && b) ≡ true → (a ≡ true) × (b ≡ true)
+and_both true b e = (refl, e)
+and_both false b e = absurd (false≢true e)
+
+looked : (want : Want) (c : Region) → look_at want c ≡ glance.Copied → are_present want.sub c ≡ true
+looked want c e = elim (cases_Bool (c.tag == tag_of want.key)) [
+  | inr f ↦ absurd (moved_copied (rw f at e))
+  | inl t ↦ elim (cases_Bool (nat_le want.sub.end (len_of c) && are_present want.sub c)) [
+    | inl y ↦ (and_both (nat_le want.sub.end (len_of c)) (are_present want.sub c) y).1
+    | inr n ↦ absurd (absent_copied (rw (t, n) at e))
+  ]
+]
+  where
+    moved_copied : {w : ℕ} → glance.Moved w ≡ glance.Copied → ⊥
+    moved_copied e = cc
+
+    absent_copied : glance.Absent ≡ glance.Copied → ⊥
+    absent_copied e = cc
+
+not_below : (test : Option ℕ → Bool) (ts : List (Option ℕ)) (i g : ℕ) → position_from test i ts ≡ Some g → i ≤ g
+not_below test [] i g h = absurd (some_none h)
+not_below test (t ∷ ts) i g h = elim (cases_Bool (test t)) [
+  | inl p ↦ let e : Some i ≡ Some g = rw p at h in let f : i ≡ g = cc in omega (arith, f)
+  | inr p ↦ let e = rw p at h in omega (arith, not_below test ts (i + 1) g e)
+]
+
+is_tag_at : (tag : ℕ) (t : Option ℕ) → is_tag tag t ≡ true → t ≡ Some tag
+is_tag_at tag None h = absurd (false≢true h)
+is_tag_at tag (Some t) h = let e : t ≡ tag = grind (arith, nat_tests) in ap (λ (n : ℕ). Some n) e
+
+-- what is found has the key
+found_at : (tag : ℕ) (ts : List (Option ℕ)) (i g k : ℕ) → position_from (is_tag tag) i ts ≡ Some g → g ≡ i + k → option_and_then (λ t. t) (slice_get ts k) ≡ Some tag
+found_at tag [] i g k h s = absurd (some_none h)
+found_at tag (t ∷ ts) i g zero h s = elim (cases_Bool (is_tag tag t)) [
+  | inl p ↦ is_tag_at tag t p
+  | inr p ↦ let e = rw p at h in absurd (omega (arith, s, not_below (is_tag tag) ts (i + 1) g e))
+]
+found_at tag (t ∷ ts) i g (suc k) h s = elim (cases_Bool (is_tag tag t)) [
+  | inl p ↦ let e : Some i ≡ Some g = rw p at h in let f : i ≡ g = cc in absurd (omega (arith, s, f))
+  | inr p ↦ let e = rw p at h in found_at tag ts (i + 1) g k e (omega (arith, s))
+]
+
+module _ {tells : Bool} {files : ℕ → ℕ → List ℕ} (s : State) (good : Good tells files s) (archive : IsTrue tells) (a mount now : ℕ) (want : Want) (l : Last)
+    (one : length s.holds ≡ 1) (actor : a < length s.holds) (none : hold_at s a ≡ None) (delta : 0 < s.config.min_delta) (fits : Fits mount now l s) (key : l.key ≡ want.key)
+    (is_want : IsWant s.config want) (long : HasLength files s.config want) (copied : look l.region want s ≡ glance.Copied) where
+  found : find (tag_of want.key) s.policy ≡ Some l.region
+  found = let P : _ → Type 0 = λ k. find (tag_of k) s.policy ≡ Some l.region in subst P key fits.mapped
+
+  inside : l.region < length s.cells
+  inside = found_inside s good (tag_of want.key) l.region found
+
+  len_is : (len_of (cell_at s l.region).region == want.len) ≡ true
+  len_is =
+      let m = good.mapped l.region (tag_of want.key) (found_at (tag_of want.key) s.policy.tags 0 l.region l.region found (omega arith)) in
+      let w = (good.cells l.region inside).whole archive (λ e. m.1 (sym m.0 ∙ e)) in
+      let e : len_of (cell_at s l.region).region ≡ want.len = w ∙ ap (λ (t : ℕ). length (region_bytes files s.config.region t)) m.0 ∙ sym long in
+      grind (arith, nat_tests)
+
+  run_none : claim_run s.config.range want.sub (cell_at s l.region).region ≡ None
+  run_none = claim_none s.config.range want.sub (cell_at s l.region).region good.config.range.0 is_want.sub.0 (looked want (cell_at s l.region).region copied)
+
+  tickets_none : (cell_at s l.region).region.tracker.tickets ≡ []
+  tickets_none =
+      let f : ℕ → ℕ → ℕ → ℕ = λ n i e. 1 in
+      let w : weigh_hold l.region (hold_ticket f) (hold_at s a) ≡ 0 = rw none refl in
+      no_weight (cell_at s l.region).region.tracker.tickets (sym (good.tickets l.region f inside) ∙ none_total (weigh_hold l.region (hold_ticket f)) s.holds a None one actor w)
+
+  entry_is : enter a mount want now s ≡ machine.hold a l.region want s
+  entry_is = rw (fits.there, found, len_is) (ap (λ (p : PolicyView). let t : State = record s { policy = p } in machine.hold a l.region want t) (fits.touched delta))
+
+  -- the entry takes no gap, and leaving gives the state back
+  pub glanced : ((enter a mount want now s).0 ≡ Held l.region None) × (leave a (hold_at (enter a mount want now s).1 a) (enter a mount want now s).1 ≡ s)
+  glanced = (
+    ap (λ (x : Entered × State). x.0) entry_is ∙ ap (λ (o : Option ByteRange). Held l.region o) run_none,
+    ap (λ (x : Entered × State). leave a (hold_at x.1 a) x.1) entry_is ∙ hold_leave s a l.region want none actor inside run_none tickets_none,
+  )
+
+-- ---- so a visit of the part takes nothing and changes nothing
+
+abbrev pair : List ByteRange → State → List ByteRange × State
+pair l s = (l, s)
+
+none_taken : (x : Entered × State) (a r base : ℕ) (bytes : List ℕ) (p : ByteRange) (s : State) → x.0 ≡ Held r None → leave a (hold_at x.1 a) x.1 ≡ s → pair (taken_by x.0 base p) (after x.0 a bytes base x.1) ≡ pair [] s
+none_taken x a r base bytes p s e back =
+    let P : Entered → Type 0 = λ y. pair (taken_by y base p) (after y a bytes base x.1) ≡ pair [] s in
+    subst P (sym e) (ap (λ (t : State). pair [] t) back)
+
+module _ {tells : Bool} {files : ℕ → ℕ → List ℕ} (s : State) (good : Good tells files s) (archive : IsTrue tells) (a : ℕ) (p : ByteRange) (l : Last) (one : length s.holds ≡ 1) (actor : a < length s.holds) (none : hold_at s a ≡ None) (delta : 0 < s.config.min_delta) where
+  pub visited : (mount m f now : ℕ) (bytes : List ℕ) → Fits mount now l s → let want = want_of s.config.region m f (length bytes) p in
+      l.key ≡ want.key → IsWant s.config want → HasLength files s.config want → look l.region want s ≡ glance.Copied → visit a mount m f bytes now p s ≡ ([], s)
+  visited mount m f now bytes fits key is_want long copied =
+      let want = want_of s.config.region m f (length bytes) p in
+      let g = glanced s good archive a mount now want l one actor none delta fits key is_want long copied in
+      none_taken (enter a mount want now s) a l.region (p.start / s.config.region * s.config.region) bytes p s g.0 g.1
+
+  pub glanced_part : (c : Line) (file : ℕ) → Fits c.mount c.now l s → let want = want_of s.config.region c.table.number file (length (bytes_of c file)) p in
+      l.key ≡ want.key → IsWant s.config want → HasLength files s.config want → look l.region want s ≡ glance.Copied → went_part c a file p s ≡ stood s
+  glanced_part c file fits key is_want long copied =
+      let want = want_of s.config.region c.table.number file (length (bytes_of c file)) p in
+      let g = glanced s good archive a c.mount c.now want l one actor none delta fits key is_want long copied in
+      let made : List ByteRange × State → Entered → Went = λ x e. record { places = spread_over (places_of c file) x.0; fetched = fetched_by e; direct = direct_by e p; state = x.1 } in
+      ap (λ (x : List ByteRange × State). made x (entry_of c a file p s)) (visited c.mount c.table.number file c.now (bytes_of c file) fits key is_want long copied)
+      ∙ ap (λ (e : Entered). made (pair [] s) e) g.0

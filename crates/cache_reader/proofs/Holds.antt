@@ -1,0 +1,275 @@
+-- A region that the only actor holds: its ticket is not failed, and where its gap is closed all bytes of the hold are present.
+use Rattle.std.proofs.Common.{arith, ◌≡◌, ◌<◌, ◌≤◌, ◌+◌, ℕ, zero, suc, Bool, true, false, List, [], ◌∷◌, ◌++◌, sym, subst, ◌∙◌, ap, inl, inr, refl, length, take, drop, get_or, Option, Some, None}
+use Rattle.std.specs.Prelude.{◌==◌, nat_lt, slice_get, slice_range}
+use Rattle.std.specs.List.{list_any, list_all}
+use Rattle.std.proofs.lemmas.Bool.{cases_Bool, cases_lt, false≢true}
+use Rattle.std.proofs.lemmas.Bool.Decides.{nat_tests}
+use Rattle.std.proofs.lemmas.List.{get_or-set_same, length-set}
+use Rattle.region_ranges.specs.declared.ranges.ByteRange.{ByteRange}
+use Rattle.region_ranges.specs.Keys.{tag_of}
+use Rattle.sparse_tracker.specs.declared.gaps.OpenGap.{OpenGap}
+use Rattle.sparse_tracker.specs.declared.tickets.Ticket.{Ticket}
+use Rattle.sparse_tracker.specs.Letters.{Letter, absent, pending, present, Tracker, is_absent, is_present, letters_in, least_unused, numbers, ids, new_ticket, open_gap_at}
+use Rattle.sparse_tracker.specs.Kept.{GapsFit}
+use Rattle.sparse_tracker.specs.Weights.{total}
+use Rattle.freq_lists.specs.Lists.{head}
+use Rattle.cache_policy.specs.Policy.{PolicyView, find}
+use Rattle.cache_policy.specs.Ageing.{touch, map_front}
+use Rattle.region_cell.specs.Cells as cells
+use Rattle.region_cell.specs.Cells.{claim_run, len_of}
+use Rattle.region_cell.specs.declared.taken.Taken.TheVariants as taken
+use Rattle.cache_door.specs.declared.answers.Want.{Want}
+use Rattle.cache_door.specs.declared.answers.Entered.TheVariants.{Held, NoRoom, Gone}
+use Rattle.cache_door.specs.declared.hold.Hold.{Hold}
+use Rattle.cache_door.specs.Machine as machine
+use Rattle.cache_door.specs.Machine.{State, Cell, cell_at, hold_at, no_cell, is_gone, gap_on, hold_on, enter, enter_at, place, make_room, take_bytes, store, store_into, leave}
+use Rattle.cache_door.specs.Good.{Good, weigh_hold, hold_gap}
+use Rattle.cache_door.specs.Doors.{told_hold}
+use Rattle.cache_reader.specs.Holds.{Unfailed}
+use Rattle.cache_reader.proofs.Rooms.{found_inside, front_inside}
+
+some_none : {X : Type 0} {x : X} → None ≡ Some x → ⊥
+some_none e = cc
+
+-- ---- lists
+
+pub past : {X : Type 0} (xs : List X) (i : ℕ) (d : X) → length xs ≤ i → get_or xs i d ≡ d
+past [] i d h = refl
+past (x ∷ xs) zero d h = absurd (omega arith)
+past (x ∷ xs) (suc i) d h = past xs i d (omega arith)
+
+no_weight : {X : Type 0} (xs : List X) → total (λ (x : X). 1) xs ≡ 0 → xs ≡ []
+no_weight [] e = refl
+no_weight (x ∷ xs) e = absurd (omega (arith, e))
+
+-- a list of one entry weighs what that does
+one_total : {X : Type 0} (f : X → ℕ) (xs : List X) (a : ℕ) (x d : X) → length xs ≡ 1 → a < length xs → get_or xs a d ≡ x → total f xs ≡ f x
+one_total f [] a x d l h e = absurd (omega (arith, l))
+one_total f (y ∷ []) zero x d l h e = let k = ap f e in omega (arith, k)
+one_total f (y ∷ []) (suc a) x d l h e = absurd (omega (arith, h))
+one_total f (y ∷ z ∷ zs) a x d l h e = absurd (omega (arith, l))
+
+take_get : {X : Type 0} (k i : ℕ) (xs : List X) (x : X) → slice_get (take k xs) i ≡ Some x → slice_get xs i ≡ Some x
+take_get zero i xs x e = absurd (some_none e)
+take_get (suc k) i [] x e = absurd (some_none e)
+take_get (suc k) zero (y ∷ ys) x e = e
+take_get (suc k) (suc i) (y ∷ ys) x e = take_get k i ys x e
+
+drop_get : {X : Type 0} (k i : ℕ) (xs : List X) (x : X) → slice_get (drop k xs) i ≡ Some x → (j : ℕ) × (slice_get xs j ≡ Some x)
+drop_get zero i xs x e = (i, e)
+drop_get (suc k) i [] x e = absurd (some_none e)
+drop_get (suc k) i (y ∷ ys) x e = let r = drop_get k i ys x e in (suc r.0, r.1)
+
+-- the letters of a sub-range are letters of the list
+cut_get : {X : Type 0} (start end i : ℕ) (xs : List X) (x : X) → slice_get (slice_range xs start end) i ≡ Some x → (j : ℕ) × (slice_get xs j ≡ Some x)
+cut_get start end i xs x e = drop_get start i xs x (take_get _ i (drop start xs) x e)
+
+get_last : {X : Type 0} (xs : List X) (x : X) → slice_get (xs ++ x ∷ []) (length xs) ≡ Some x
+get_last [] x = refl
+get_last (y ∷ ys) x = get_last ys x
+
+all_there : (ls : List Letter) → list_any is_absent ls ≡ false → ((i g : ℕ) → slice_get ls i ≡ Some (pending g) → ⊥) → list_all is_present ls ≡ true
+all_there [] e n = refl
+all_there (absent ∷ ls) e n = absurd (false≢true (sym e))
+all_there (pending g ∷ ls) e n = absurd (n 0 g refl)
+all_there (present ∷ ls) e n = all_there ls e (λ i g. n (suc i) g)
+
+-- ---- the only actor
+
+pub held_inside : (s : State) (a : ℕ) (h : Hold) → hold_at s a ≡ Some h → a < length s.holds
+held_inside s a h e = elim (cases_lt a (length s.holds)) [
+  | inl l ↦ l
+  | inr g ↦ absurd (some_none (sym (past s.holds a None g) ∙ e))
+]
+
+weigh_closed : (r : ℕ) (f : ℕ → ℕ → ℕ → ℕ) (h : Hold) → h.gap.end ≤ h.gap.upto → weigh_hold r (hold_gap f) (Some h) ≡ 0
+weigh_closed r f h closed =
+    let t : nat_lt h.gap.upto h.gap.end ≡ false = grind (arith, nat_tests) in
+    rw t (elim (cases_Bool (h.region == r)) [ inl u ↦ rw u refl | inr u ↦ rw u refl ])
+
+-- where it holds no open gap, no cell has one
+pub no_gaps : {tells : Bool} {files : ℕ → ℕ → List ℕ} (s : State) (a r : ℕ) (h : Hold) → Good tells files s → length s.holds ≡ 1 → hold_at s a ≡ Some h → h.gap.end ≤ h.gap.upto → r < length s.cells
+    → (cell_at s r).region.tracker.gaps ≡ []
+no_gaps s a r h good one held closed inside =
+    let f : ℕ → ℕ → ℕ → ℕ = λ n i e. 1 in
+    no_weight (cell_at s r).region.tracker.gaps (
+    sym (good.gaps r f inside)
+    ∙ one_total (weigh_hold r (hold_gap f)) s.holds a (Some h) None one (held_inside s a h held) held
+    ∙ weigh_closed r f h closed)
+
+none_pending : (t : Tracker) → GapsFit t → t.gaps ≡ [] → (i g : ℕ) → slice_get t.letters i ≡ Some (pending g) → ⊥
+none_pending t fit none i g e =
+    let o = fit.owned i g e in
+    let P : List OpenGap → Type 0 = λ l. slice_get l o.0 ≡ Some o.1 in
+    some_none (subst P none o.2)
+
+unfailed_copied : {tells : Bool} {files : ℕ → ℕ → List ℕ} (s : State) (a : ℕ) → Good tells files s → length s.holds ≡ 1 → (u : Unfailed a s) → u.hold.gap.end ≤ u.hold.gap.upto
+    → take_bytes (Some u.hold) s ≡ taken.Copied
+unfailed_copied s a good one u closed =
+    let h = u.hold in
+    let inside = (good.holds a h u.held).region in
+    let cell = good.cells h.region inside in
+    let t = (cell_at s h.region).region.tracker in
+    let n = no_gaps s a h.region h good one u.held closed inside in
+    let ls = letters_in h.sub.start h.sub.end t.letters in
+    let none : list_any is_absent ls ≡ false = elim (cases_Bool (list_any is_absent ls)) [
+      | inl t ↦ absurd (false≢true (sym u.unfailed ∙ cell.ranged.marked u.place u.ticket u.there (rw (u.start, u.end) t)))
+      | inr f ↦ f
+    ] in
+    let all : list_all is_present ls ≡ true = all_there ls none (λ i g e. let c = cut_get h.sub.start h.sub.end i t.letters (pending g) e in none_pending t cell.tracker.gaps n c.0 g c.1) in
+    rw all refl
+
+pub alone_copied : {tells : Bool} {files : ℕ → ℕ → List ℕ} (s : State) (a : ℕ) → Good tells files s → length s.holds ≡ 1 → Unfailed a s
+    → (told_hold (hold_at s a)).gap_end ≤ (told_hold (hold_at s a)).upto → take_bytes (hold_at s a) s ≡ taken.Copied
+alone_copied s a good one u closed =
+    let P : Option Hold → Type 0 = λ o. take_bytes o s ≡ taken.Copied in
+    let Q : Option Hold → Type 0 = λ o. (told_hold o).gap_end ≤ (told_hold o).upto in
+    subst P (sym u.held) (unfailed_copied s a good one u (subst Q u.held closed))
+
+-- a piece is stored
+pub store_unfailed : (s : State) (a : ℕ) (piece : List ℕ) → Unfailed a s → Unfailed a (store a (hold_at s a) piece s)
+store_unfailed s a piece u =
+    let h = u.hold in
+    let to = h.gap.upto + length piece in
+    let k : Hold = record h { gap = record h.gap { upto = to } } in
+    let inside : h.region < length s.cells = elim (cases_lt h.region (length s.cells)) [
+      | inl l ↦ l
+      | inr g ↦ (let P : Cell → Type 0 = λ x. slice_get x.region.tracker.tickets u.place ≡ Some u.ticket in absurd (some_none (subst P (past s.cells h.region no_cell g) u.there)))
+    ] in
+    let here = get_or-set_same s.cells h.region _ no_cell inside in
+    let P : Cell → Type 0 = λ x. slice_get x.region.tracker.tickets u.place ≡ Some u.ticket in
+    let next : Unfailed a (store_into a h piece s) = record {
+      hold = k;
+      held = get_or-set_same s.holds a (Some k) None (held_inside s a h u.held);
+      place = u.place;
+      ticket = u.ticket;
+      there = subst P (sym here) u.there;
+      number = u.number;
+      start = u.start;
+      end = u.end;
+      unfailed = u.unfailed;
+    } in
+    let Q : Option Hold → Type 0 = λ o. Unfailed a (store a o piece s) in
+    subst Q (sym u.held) next
+
+-- ---- the number of actors, and a hold that is given back
+
+pub store_actors : (s : State) (a : ℕ) (o : Option Hold) (piece : List ℕ) → length (store a o piece s).holds ≡ length s.holds
+store_actors s a None piece = refl
+store_actors s a (Some h) piece = length-set s.holds a _
+
+pub leave_actors : (s : State) (a : ℕ) (o : Option Hold) → length (leave a o s).holds ≡ length s.holds
+leave_actors s a None = refl
+leave_actors s a (Some h) = length-set s.holds a None
+
+place_actors : (s : State) (a now : ℕ) (want : Want) (o : Option ℕ) (p : PolicyView) → length (place a o p want now s).1.holds ≡ length s.holds
+place_actors s a now want None p = refl
+place_actors s a now want (Some r) p = length-set s.holds a _
+
+enter_at_actors : (s : State) (a now : ℕ) (want : Want) (o : Option ℕ) → length (enter_at o a want now s).1.holds ≡ length s.holds
+enter_at_actors s a now want None = place_actors s a now want (head (make_room s).free) (make_room s)
+enter_at_actors s a now want (Some r) = elim (cases_Bool (len_of (cell_at s r).region == want.len)) [
+  | inl t ↦ rw t (length-set s.holds a _)
+  | inr f ↦ rw f refl
+]
+
+pub enter_actors : (s : State) (a mount now : ℕ) (want : Want) → length (enter a mount want now s).1.holds ≡ length s.holds
+enter_actors s a mount now want = elim (cases_Bool (is_gone s mount)) [
+  | inl t ↦ rw t refl
+  | inr f ↦ rw f (enter_at_actors s a now want (find (tag_of want.key) s.policy))
+]
+
+left_none : (s : State) (a : ℕ) (o : Option Hold) → hold_at s a ≡ o → hold_at (leave a o s) a ≡ None
+left_none s a None e = e
+left_none s a (Some h) e = get_or-set_same s.holds a None None (held_inside s a h e)
+
+pub leave_alone : (s : State) (a : ℕ) → hold_at (leave a (hold_at s a) s) a ≡ None
+leave_alone s a = left_none s a (hold_at s a) refl
+
+-- ---- an entry that is answered by a hold
+
+-- the hold is on the region, wants what was wanted, and has the answer's gap
+pub record Begun (a r : ℕ) (want : Want) (gap : Option ByteRange) (s : State) : Type 0 where
+  pub unfailed : Unfailed a s
+  pub region : unfailed.hold.region ≡ r
+  pub tag : unfailed.hold.tag ≡ tag_of want.key
+  pub sub : unfailed.hold.sub ≡ want.sub
+  pub id : ℕ
+  pub gap_is : unfailed.hold.gap ≡ gap_on id gap
+
+tickets_open : (run : Option ByteRange) (t : Tracker) → (open_gap_at run t).tickets ≡ t.tickets
+tickets_open None t = refl
+tickets_open (Some x) t = refl
+
+pub held_begun : (s : State) (a r : ℕ) (want : Want) → a < length s.holds → r < length s.cells
+    → Begun a r want (claim_run s.config.range want.sub (cell_at s r).region) (machine.hold a r want s).1
+held_begun s a r want actor inside =
+    let c = (cell_at s r).region in
+    let run = claim_run s.config.range want.sub c in
+    let t = open_gap_at run c.tracker in
+    let here = get_or-set_same s.cells r _ no_cell inside in
+    let P : Cell → Type 0 = λ x. slice_get x.region.tracker.tickets (length t.tickets) ≡ Some (new_ticket want.sub t) in
+    record {
+      unfailed = record {
+        hold = hold_on s.config.range r want c;
+        held = get_or-set_same s.holds a (Some (hold_on s.config.range r want c)) None actor;
+        place = length t.tickets;
+        ticket = new_ticket want.sub t;
+        there = subst P (sym here) (get_last t.tickets (new_ticket want.sub t));
+        number = ap (λ (l : List Ticket). least_unused (numbers l)) (tickets_open run c.tracker);
+        start = refl;
+        end = refl;
+        unfailed = refl;
+      };
+      region = refl;
+      tag = refl;
+      sub = refl;
+      id = least_unused (ids c.tracker.gaps);
+      gap_is = refl;
+    }
+
+room_held : {q : ℕ} {o : Option ByteRange} → NoRoom ≡ Held q o → ⊥
+room_held e = cc
+
+gone_held : {q : ℕ} {o : Option ByteRange} → Gone ≡ Held q o → ⊥
+gone_held e = cc
+
+held_same : (r q : ℕ) (o p : Option ByteRange) → Held r o ≡ Held q p → (r ≡ q) × (o ≡ p)
+held_same r q o p e = (cc, cc)
+
+module _ {tells : Bool} {files : ℕ → ℕ → List ℕ} (s : State) (good : Good tells files s) (a : ℕ) (actor : a < length s.holds) (want : Want) (now r : ℕ) (gap : Option ByteRange) where
+  -- of this region and gap
+  answered : (t : State) (q : ℕ) (o : Option ByteRange) → Held q o ≡ Held r gap → Begun a q want o t → Begun a r want gap t
+  answered t q o e b =
+      let k = held_same q r o gap e in
+      let P : ℕ → Type 0 = λ n. Begun a n want o t in
+      let Q : Option ByteRange → Type 0 = λ g. Begun a r want g t in
+      subst Q k.1 (subst P k.0 b)
+
+  place_begun : (o : Option ℕ) → head (make_room s).free ≡ o → (place a o (make_room s) want now s).0 ≡ Held r gap → Begun a r want gap (place a o (make_room s) want now s).1
+  place_begun None front e = absurd (room_held e)
+  place_begun (Some q) front e =
+      let p = make_room s in
+      let u : State = record (machine.with_region q (cells.assign (tag_of want.key) want.len (cell_at s q).region) s) { policy = map_front q (tag_of want.key) now p } in
+      let l = length-set s.cells q (record { region = cells.assign (tag_of want.key) want.len (cell_at s q).region; bytes = (cell_at s q).bytes }) in
+      let inside = front_inside s good q front in
+      answered (machine.hold a q want u).1 q (claim_run u.config.range want.sub (cell_at u q).region) e (held_begun u a q want actor (omega (arith, l, inside)))
+
+  found_begun : (o : Option ℕ) → find (tag_of want.key) s.policy ≡ o → (enter_at o a want now s).0 ≡ Held r gap → Begun a r want gap (enter_at o a want now s).1
+  found_begun None found e = place_begun (head (make_room s).free) refl e
+  found_begun (Some q) found e = elim (cases_Bool (len_of (cell_at s q).region == want.len)) [
+    | inl t ↦
+        let u : State = record s { policy = touch q now s.policy } in
+        let f : (machine.hold a q want u).0 ≡ Held r gap = rw t at e in
+        rw t (answered (machine.hold a q want u).1 q (claim_run u.config.range want.sub (cell_at u q).region) f (held_begun u a q want actor (found_inside s good (tag_of want.key) q found)))
+    | inr n ↦ absurd (room_held (rw n at e))
+  ]
+
+  pub entered_begun : (mount : ℕ) → (enter a mount want now s).0 ≡ Held r gap → Begun a r want gap (enter a mount want now s).1
+  entered_begun mount e = elim (cases_Bool (is_gone s mount)) [
+    | inl t ↦ absurd (gone_held (rw t at e))
+    | inr f ↦ rw f (found_begun (find (tag_of want.key) s.policy) refl (rw f at e))
+  ]
+
+  pub entered_unfailed : (mount : ℕ) → (enter a mount want now s).0 ≡ Held r gap → Unfailed a (enter a mount want now s).1
+  entered_unfailed mount e = (entered_begun mount e).unfailed

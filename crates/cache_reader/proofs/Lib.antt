@@ -1,0 +1,17 @@
+pub mod Wants
+pub mod Joins
+pub mod Fills
+pub mod Ends
+pub mod Through
+pub mod Entering
+pub mod Together
+pub mod Answered
+pub mod Rooms
+pub mod Holds
+pub mod Glances
+pub mod Stores
+pub mod Cuts
+pub mod Runs
+pub mod Gaps
+pub mod States
+pub mod Entries

@@ -1,0 +1,62 @@
+-- What one part of a file, read through a door, makes of the door and the source.
+use Rattle.std.specs.Prelude.{◌≡◌, ◌≤◌, ◌+◌, ◌-◌, ℕ, Bool, true, false, IsTrue, List, length, Result, Ok, Err}
+use Rattle.blob_parts.specs.Content.{slice_of}
+use Rattle.blob_parts.specs.Takes.{Took}
+use Rattle.cache_door.specs.Doors.{Told}
+use Rattle.cache_reader.specs.declared.report.Report.{Report}
+use Rattle.cache_reader.specs.Reports.{Counted, fetched_bytes}
+use Rattle.cache_reader.specs.Parts.{Line, places_of}
+use Rattle.cache_reader.specs.Going.{Moment, Goes, Takes}
+
+abbrev pub piece_count : {E : Type 0} → ℕ → Result Bool E → ℕ
+piece_count n (Ok true) = n
+piece_count n (Ok false) = 0
+piece_count n (Err e) = 0
+
+-- the hold behind a piece
+abbrev pub piece_hold : {E : Type 0} → ℕ → Result Bool E → Told → Told
+piece_hold n (Ok true) t = record t { upto = t.upto + n }
+piece_hold n (Ok false) t = t
+piece_hold n (Err e) t = t
+
+-- the bytes `from` to `at` of a region were fetched and stored
+pub record Filling (c : Line) (file base from at : ℕ) (report_before report_now : Report) (x y : Moment) : Type 0 where
+  pub goes : Goes c (fetched_bytes (at - from)) x y
+  pub report : Counted report_before report_now (fetched_bytes (at - from))
+  pub took : IsTrue c.tells → Took x.taken y.taken (slice_of (places_of c file) (base + from) (at - from))
+
+-- Some bytes of a gap of so many were fetched and stored. They were taken, and where that was not all at most a piece more; a frame
+-- refused a piece only where its count rose.
+pub record Partly (c : Line) (gap : ℕ) (report_before report_now : Report) (x y : Moment) : Type 0 where
+  pub count : ℕ
+  pub most : count ≤ gap
+  pub goes : Goes c (fetched_bytes count) x y
+  pub report : Counted report_before report_now (fetched_bytes count)
+  pub took : IsTrue c.tells → (places : List (ℕ × ℕ)) × Took x.taken y.taken places × (count ≤ length places) × (length places ≤ gap)
+
+-- a gap of so many bytes was fetched and stored
+pub record Whole (c : Line) (size : ℕ) (report_before report_now : Report) (x y : Moment) : Type 0 where
+  pub goes : Goes c (fetched_bytes size) x y
+  pub report : Counted report_before report_now (fetched_bytes size)
+  pub took : IsTrue c.tells → (places : List (ℕ × ℕ)) × Took x.taken y.taken places × (length places ≡ size)
+
+-- the hold stays, but for its gap
+pub record SameHold (a b : Told) : Type 0 where
+  pub held : b.held ≡ a.held
+  pub region : b.region ≡ a.region
+  pub tag : b.tag ≡ a.tag
+  pub sub : b.sub ≡ a.sub
+
+-- What a read of so many bytes did that was answered or refused: `lacked` says that the answer was want of memory. Where it was answered,
+-- its bytes were copied or read directly.
+pub record PartGoes (c : Line) (size : ℕ) (answered lacked : Bool) (report_before report_now : Report) (x y : Moment) : Type 0 where
+  pub counts : Report
+  pub report : Counted report_before report_now counts
+  pub most : counts.hit + counts.direct ≤ size
+  pub all : answered ≡ true → counts.hit + counts.direct ≡ size
+  pub goes : Goes c counts x y
+  pub takes : IsTrue c.tells → Takes c lacked x y
+
+abbrev pub is_answered : {T E : Type 0} → Result T E → Bool
+is_answered (Ok x) = true
+is_answered (Err e) = false

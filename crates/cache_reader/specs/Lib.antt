@@ -1,0 +1,10 @@
+pub mod Reports
+pub mod Bounds
+pub mod Going
+pub mod Parts
+pub mod Filling
+pub mod Alone
+pub mod Through
+pub mod Stored
+pub mod Holds
+pub mod Runs

@@ -1,0 +1,155 @@
+-- Reads behind reads.
+use Rattle.std.proofs.Common.{arith, ◌≡◌, ◌<◌, ◌≤◌, ◌+◌, ℕ, List, [], ◌∷◌, ◌++◌, length, Bool, true, false, Option, Some, None, refl, ap, sym, subst, ◌∙◌, inl, inr}
+use Rattle.std.specs.Prelude.{IsTrue}
+use Rattle.std.proofs.lemmas.Bool.{cases_lt}
+use Rattle.std.proofs.lemmas.Grind.{flat_map-append}
+use Rattle.std.proofs.lemmas.List.{append-nil, append_assoc, length-append}
+use Rattle.std.proofs.lemmas.List.Sums.{sum_by-append}
+use Rattle.std.proofs.Math.Nat.{le_refl, le_trans}
+use Rattle.directory_input.specs.Reads.{Read}
+use Rattle.cache_outside.specs.Causes.{Rose}
+use Rattle.blob_parts.specs.Content.{spread, spread_one}
+use Rattle.blob_parts.specs.Takes.{Took}
+use Rattle.blob_parts.specs.Tables.{TableParts}
+use Rattle.blob_parts.specs.Going.{AreInTable}
+use Rattle.cache_door.specs.declared.work.Work.{Work}
+use Rattle.cache_door.specs.Doors.{Grown}
+use Rattle.cache_reader.specs.declared.report.Report.{Report}
+use Rattle.cache_reader.specs.declared.part.Setting.{Setting}
+use Rattle.cache_reader.specs.Reports.{joined, no_bytes, Grew, Counted}
+use Rattle.cache_reader.specs.Bounds.{Bounded, Worked}
+use Rattle.cache_reader.specs.Parts.{Line, line}
+use Rattle.cache_reader.specs.Going.{Moment, Goes, Takes, ReadsThrough}
+use Rattle.cache_outside.specs.Listing.{Listing}
+
+pub grew_none : (n : ℕ) → Grew n n 0
+grew_none n = record { later = le_refl n; most = omega arith; whole = λ h. omega arith }
+
+pub grew_more : (a b d m n : ℕ) → Grew a b m → Grew b d n → Grew a d (m + n)
+grew_more a b d m n h k = record {
+  later = le_trans h.later k.later;
+  most = omega (arith, h.most, k.most);
+  whole = λ less. let first : b ≡ a + m = h.whole (omega (arith, k.later, less)) in omega (arith, first, k.whole less);
+}
+
+pub rose_first : (a b d : ℕ) → b ≤ d → Rose a b → Rose a d
+rose_first a b d h r = le_trans r h
+
+pub rose_then : (a b d : ℕ) → a ≤ b → Rose b d → Rose a d
+rose_then a b d h r = omega (arith, h, r)
+
+pub worked_none : (w : Work) → Worked no_bytes w w
+worked_none w = record { stored = grew_none w.stored; turned = le_refl w.turned_away; direct = λ h. absurd (omega arith); decays = refl; clears = refl }
+
+some_of : (m n : ℕ) (P : Type 0) → (0 < m → P) → (0 < n → P) → 0 < m + n → P
+some_of m n P f g h = elim (cases_lt 0 m) [ inl l ↦ f l | inr l ↦ g (omega (arith, l, h)) ]
+
+pub worked_more : (m n : Report) (a b d : Work) → Worked m a b → Worked n b d → Worked (joined m n) a d
+worked_more m n a b d h k = record {
+  stored = grew_more a.stored b.stored d.stored m.fetched n.fetched h.stored k.stored;
+  turned = le_trans h.turned k.turned;
+  direct = some_of m.direct n.direct (Rose a.turned_away d.turned_away) (λ s. rose_first a.turned_away b.turned_away d.turned_away k.turned (h.direct s)) (λ s. rose_then a.turned_away b.turned_away d.turned_away h.turned (k.direct s));
+  decays = k.decays ∙ h.decays;
+  clears = k.clears ∙ h.clears;
+}
+
+pub goes_none : (c : Line) (x : Moment) → Goes c no_bytes x x
+goes_none c x = record { faults = le_refl x.faults; frame_faults = le_refl x.frame_faults; seen = λ m h. h; unmounted = refl; work = worked_none x.work }
+
+pub goes_more : (c : Line) (m n : Report) (x y z : Moment) → Goes c m x y → Goes c n y z → Goes c (joined m n) x z
+goes_more c m n x y z h k = record {
+  faults = le_trans h.faults k.faults;
+  frame_faults = le_trans h.frame_faults k.frame_faults;
+  seen = λ a g. k.seen a (h.seen a g);
+  unmounted = k.unmounted ∙ h.unmounted;
+  work = worked_more m n x.work y.work z.work h.work k.work;
+}
+
+pub counted_none : (a : Report) → Counted a a no_bytes
+counted_none a = record { hit = grew_none a.hit; fetched = grew_none a.fetched; direct = grew_none a.direct }
+
+pub counted_more : (a b d m n : Report) → Counted a b m → Counted b d n → Counted a d (joined m n)
+counted_more a b d m n h k = record {
+  hit = grew_more a.hit b.hit d.hit m.hit n.hit h.hit k.hit;
+  fetched = grew_more a.fetched b.fetched d.fetched m.fetched n.fetched h.fetched k.fetched;
+  direct = grew_more a.direct b.direct d.direct m.direct n.direct h.direct k.direct;
+}
+
+-- nothing is taken
+pub took_none : (t : Option (List (ℕ × ℕ × ℕ))) → Took t t []
+took_none None = refl
+took_none (Some before) = ([], ap Some (sym (append-nil before)), refl)
+
+-- one after another
+pub took_both : (t u v : Option (List (ℕ × ℕ × ℕ))) (first then : List (ℕ × ℕ)) → Took t u first → Took u v then → Took t v (first ++ then)
+took_both None u v first then a b = rw a at b
+took_both (Some before) u v first then a b =
+    let own = rw a.1 at b in (
+      a.0 ++ own.0,
+      own.1 ∙ ap Some (append_assoc before a.0 own.0),
+      flat_map-append spread_one a.0 own.0 ∙ ap (λ r. r ++ spread own.0) a.2 ∙ ap (λ r. first ++ r) own.2,
+    )
+
+pub bounded_none : (range : ℕ) (w : Work) → Bounded range w w 0
+bounded_none range w s t = (omega arith, omega arith)
+
+pub bounded_more : (range : ℕ) (a b d : Work) (m n : ℕ) → b.stored ≤ d.stored → b.turned_away ≤ d.turned_away → Bounded range a b m → Bounded range b d n → Bounded range a d (m + n)
+bounded_more range a b d m n up on h k s t =
+    let first = h (omega (arith, s, up)) (omega (arith, t, on)) in
+    let second = k s t in
+    (omega (arith, first.0, second.0), omega (arith, first.1, second.1))
+
+pub takes_none : (c : Line) (lacked : Bool) (x : Moment) → Takes c lacked x x
+takes_none c lacked x = record { places = []; took = took_none x.taken; bound = λ a b. bounded_none c.config.range x.work }
+
+pub takes_more : (c : Line) (k l : Bool) (m n : Report) (x y z : Moment) → (l ≡ false → k ≡ false) → Goes c m x y → Goes c n y z → Takes c k x y → Takes c l y z → Takes c l x z
+takes_more c k l m n x y z marks first second h j = record {
+  places = h.places ++ j.places;
+  took = took_both x.taken y.taken z.taken h.places j.places h.took j.took;
+  bound = λ unwanted calm. rw (length-append h.places j.places) (bounded_more c.config.range x.work y.work z.work (length h.places) (length j.places) second.work.stored.later second.work.turned
+      (h.bound (marks unwanted) (λ r. calm (rose_first x.faults y.faults z.faults second.faults r)))
+      (j.bound unwanted (λ r. calm (rose_then x.faults y.faults z.faults first.faults r))));
+}
+
+allowed_more : (table : TableParts) (rs ss : List Read) → AreInTable table rs → AreInTable table ss → AreInTable table (rs ++ ss)
+allowed_more table [] ss h k = k
+allowed_more table (r ∷ rs) ss h k = (h.0, h.1, allowed_more table rs ss h.2 k)
+
+pub unmarked : (first then : Bool) → (IsTrue first → IsTrue then) → then ≡ false → first ≡ false
+unmarked false then h e = refl
+unmarked true then h e = let raised = h refl in absurd (cc)
+
+pub no_reads : (c : Line) (total : Report) (wanted : Bool) (x : Moment) → ReadsThrough c [] total total wanted wanted x x
+no_reads c total wanted x = record {
+  allowed = tt;
+  marked = λ h. h;
+  counts = no_bytes;
+  total = counted_none total;
+  most = omega arith;
+  goes = goes_none c x;
+  takes = λ told. takes_none c wanted x;
+}
+
+pub more_reads : (c : Line) (rs ss : List Read) (q r s : Report) (u v w : Bool) (x y z : Moment)
+    → ReadsThrough c rs q r u v x y → ReadsThrough c ss r s v w y z → ReadsThrough c (rs ++ ss) q s u w x z
+more_reads c rs ss q r s u v w x y z h k = record {
+  allowed = allowed_more c.table rs ss h.allowed k.allowed;
+  marked = λ m. k.marked (h.marked m);
+  counts = joined h.counts k.counts;
+  total = counted_more q r s h.counts k.counts h.total k.total;
+  most = omega (arith, h.most, k.most, sum_by-append (λ (r : Read). r.size) rs ss);
+  goes = goes_more c h.counts k.counts x y z h.goes k.goes;
+  takes = λ told. takes_more c v w h.counts k.counts x y z (unmarked v w k.marked) h.goes k.goes (h.takes told) (k.takes told);
+}
+
+-- the same, where the later reads are of a table and a setting that are the same ones
+pub more_of_same : (tells : Bool) (blobs : Listing) (table other : TableParts) (own next : Setting) (rs ss : List Read) (q r s : Report) (u v w : Bool) (x y z : Moment)
+    → other ≡ table → next ≡ own → ReadsThrough (line tells blobs table own) rs q r u v x y → ReadsThrough (line tells blobs other next) ss r s v w y z
+    → ReadsThrough (line tells blobs table own) (rs ++ ss) q s u w x z
+more_of_same tells blobs table other own next rs ss q r s u v w x y z same kept h k =
+    let first : ReadsThrough (line tells blobs table next) ss r s v w y z = subst (λ t. ReadsThrough (line tells blobs t next) ss r s v w y z) same k in
+    more_reads (line tells blobs table own) rs ss q r s u v w x y z h (subst (λ n. ReadsThrough (line tells blobs table n) ss r s v w y z) kept first)
+
+-- what was seen gone of a mount stays so
+pub gone_kept : (own next : Setting) (p q : ℕ → Bool) → next ≡ own → Grown p q → IsTrue (p own.mount) → IsTrue (q next.mount)
+gone_kept own next p q same grown seen = subst (λ (s : Setting). IsTrue (q s.mount)) (sym same) (grown own.mount seen)

@@ -1,0 +1,148 @@
+// The gap of a hold: fetched in pieces, each stored at once.
+ghost use Rattle.std.specs.Prelude.{option_map, ◌≡◌, ◌<◌, ◌≤◌, ◌+◌, ◌-◌, ◌*◌, true, false, Some, Ok, IsTrue, IsErrOf, IfSome, length};
+ghost use Rattle.cache_outside.specs.Causes.{Rose};
+ghost use Rattle.blob_parts.specs.Content.{content, content_places, slice_of};
+ghost use Rattle.blob_parts.specs.Tables.{file_length};
+ghost use Rattle.blob_parts.specs.Takes.{Takes, Took};
+ghost use Rattle.region_ranges.specs.Keys.{manifest_of};
+ghost use Rattle.region_cell.specs.Cells.{file_of, part_of};
+ghost use Rattle.cache_door.specs.Doors.{range_start, range_end};
+ghost use Rattle.cache_door.specs.Machine.{State, store, hold_at};
+ghost use Rattle.cache_reader.specs.Reports.{fetched_bytes};
+ghost use Rattle.cache_reader.specs.Parts.{line};
+ghost use Rattle.cache_reader.specs.Going.{Between, Goes};
+ghost use Rattle.cache_reader.specs.Filling.{piece_hold, piece_count, Partly, Whole, SameHold};
+ghost use Rattle.cache_reader.specs.Stored.{rest_stored, gap_stored};
+ghost use Rattle.cache_reader.specs.Alone.{SamePolicy};
+
+use crate::Report;
+use crate::part::Setting;
+use blob_parts::{FetchError, PartTable, fetch};
+use cache_door::CacheDoor;
+use cache_outside::{Archive, BlobSource};
+use region_ranges::ByteRange;
+use std::alloc::Global;
+
+/// The most bytes that are fetched and stored at once.
+const PIECE: u64 = 65_536;
+
+/// Fetches one piece and stores it. False: a frame refused it.
+fn store_piece<A: Archive, D: CacheDoor<A>, S: BlobSource<A>>(
+    alloc: Global,
+    door: &mut D,
+    source: &mut S,
+    table: &PartTable<A>,
+    file: u32,
+    at: u64,
+    len: u32,
+    setting: &Setting,
+) -> Result<bool, FetchError>
+    requires file { file < length table.now.files }
+    requires held { (D.hold door.old).held ≡ true }
+    requires gap { ((D.hold door.old).upto + len ≤ (D.hold door.old).gap_end) × (0 < len) × (len ≤ 65536) }
+    requires place { (manifest_of (D.hold door.old).tag ≡ table.now.number) × (file_of (D.hold door.old).tag ≡ file) × (at ≡ part_of (D.hold door.old).tag * (D.config door.old).region + (D.hold door.old).upto) }
+    requires inside { at + len ≤ file_length table.now file }
+    ensures stays { D.stays door.old door.new }
+    ensures hold { D.hold door.new ≡ piece_hold len result (D.hold door.old) }
+    ensures fault { IsErrOf result FetchError.Fault → Rose (S.faults source.old) (S.faults source.new) }
+    ensures frame { result ≡ Ok false → Rose (D.frame_faults door.old) (D.frame_faults door.new) }
+    ensures turned { result ≡ Ok false → Rose (D.work door.old).turned_away (D.work door.new).turned_away }
+    ensures same { S.which source.new ≡ S.which source.old }
+    ensures goes { Between (Goes (line A.tells A.blobs table.now setting.now) (fetched_bytes (piece_count len result))) S.faults S.taken D.frame_faults D.seen_gone D.unmounted D.work D.state source.old source.new door.old door.new }
+    ensures taken { IsTrue A.tells → Takes (S.taken source.old) (S.taken source.new) (slice_of (content_places A.blobs table.now.number file) at len) result }
+    ensures kept { SamePolicy (D.state door.old) (D.state door.new) }
+    ensures stored { result ≡ Ok true → IsTrue A.tells → D.state door.new ≡ option_map (λ s. store (D.actor door.old) (hold_at s (D.actor door.old)) (slice_of (content A.blobs table.now.number file) at len) s) (D.state door.old) }
+{
+    let piece = fetch(alloc, source, table, file, at, len)?;
+    Ok(door.store(&piece).is_ok())
+}
+
+/// Fetches the gap of the hold in rising pieces, and stores each at once. A piece that is refused, by the source or (false) by a frame,
+/// fails the rest of the gap. `base` is the place of the region in the file.
+fn fill<A: Archive, D: CacheDoor<A>, S: BlobSource<A>>(
+    alloc: Global,
+    door: &mut D,
+    source: &mut S,
+    table: &PartTable<A>,
+    file: u32,
+    base: u64,
+    gap: ByteRange,
+    setting: &Setting,
+    report: &mut Report,
+) -> Result<bool, FetchError>
+    requires file { file < length table.now.files }
+    requires held { (D.hold door.old).held ≡ true }
+    requires gap { ((D.hold door.old).upto ≡ gap.start) × ((D.hold door.old).gap_end ≡ gap.end) × (gap.start < gap.end) }
+    requires place { (manifest_of (D.hold door.old).tag ≡ table.now.number) × (file_of (D.hold door.old).tag ≡ file) × (base ≡ part_of (D.hold door.old).tag * (D.config door.old).region) }
+    requires inside { base + gap.end ≤ file_length table.now file }
+    ensures stays { D.stays door.old door.new }
+    ensures hold { (D.hold door.new).gap_end ≤ (D.hold door.new).upto }
+    ensures same_hold { SameHold (D.hold door.old) (D.hold door.new) }
+    ensures fault { IsErrOf result FetchError.Fault → Rose (S.faults source.old) (S.faults source.new) }
+    ensures frame { result ≡ Ok false → Rose (D.frame_faults door.old) (D.frame_faults door.new) }
+    ensures turned { result ≡ Ok false → Rose (D.work door.old).turned_away (D.work door.new).turned_away }
+    ensures same { S.which source.new ≡ S.which source.old }
+    ensures partly { Between (Partly (line A.tells A.blobs table.now setting.now) (gap.end - gap.start) report.old report.new) S.faults S.taken D.frame_faults D.seen_gone D.unmounted D.work D.state source.old source.new door.old door.new }
+    ensures whole { result ≡ Ok true → Between (Whole (line A.tells A.blobs table.now setting.now) (gap.end - gap.start) report.old report.new) S.faults S.taken D.frame_faults D.seen_gone D.unmounted D.work D.state source.old source.new door.old door.new }
+    ensures kept { SamePolicy (D.state door.old) (D.state door.new) }
+    ensures stored { result ≡ Ok true → IsTrue A.tells → (s : State) → D.state door.old ≡ Some s → D.state door.new ≡ Some (rest_stored (line A.tells A.blobs table.now setting.now) (D.actor door.old) file base gap.start gap.end s) }
+    ensures took { result ≡ Ok true → IsTrue A.tells → Took (S.taken source.old) (S.taken source.new) (slice_of (content_places A.blobs table.now.number file) (base + gap.start) (gap.end - gap.start)) }
+{
+    let _length = table.length(file);
+    let mut at = gap.start;
+    while at < gap.end {
+        door.lesson();
+        let len = (gap.end - at).min(PIECE) as u32;
+        match store_piece(alloc, door, source, table, file, base + at, len, setting) {
+            Ok(true) => {
+                at += len as u64;
+                report.store(len);
+            }
+            Ok(false) => {
+                door.fail();
+                return Ok(false);
+            }
+            Err(e) => {
+                door.fail(); // nobody waits for what will not come
+                return Err(e);
+            }
+        }
+    }
+    Ok(true)
+}
+
+/// Fills the gap of the hold, where there is one. False: a frame refused a piece.
+pub(crate) fn fill_gap<A: Archive, D: CacheDoor<A>, S: BlobSource<A>>(
+    alloc: Global,
+    door: &mut D,
+    source: &mut S,
+    table: &PartTable<A>,
+    file: u32,
+    base: u64,
+    gap: Option<ByteRange>,
+    setting: &Setting,
+    report: &mut Report,
+) -> Result<bool, FetchError>
+    requires file { file < length table.now.files }
+    requires held { (D.hold door.old).held ≡ true }
+    requires gap { ((D.hold door.old).upto ≡ range_start gap) × ((D.hold door.old).gap_end ≡ range_end gap) }
+    requires some { IfSome gap (λ g. (g.start < g.end) × (base + g.end ≤ file_length table.now file)) }
+    requires place { (manifest_of (D.hold door.old).tag ≡ table.now.number) × (file_of (D.hold door.old).tag ≡ file) × (base ≡ part_of (D.hold door.old).tag * (D.config door.old).region) }
+    ensures stays { D.stays door.old door.new }
+    ensures hold { (D.hold door.new).gap_end ≤ (D.hold door.new).upto }
+    ensures same_hold { SameHold (D.hold door.old) (D.hold door.new) }
+    ensures fault { IsErrOf result FetchError.Fault → Rose (S.faults source.old) (S.faults source.new) }
+    ensures turned { result ≡ Ok false → Rose (D.work door.old).turned_away (D.work door.new).turned_away }
+    ensures same { S.which source.new ≡ S.which source.old }
+    ensures partly { Between (Partly (line A.tells A.blobs table.now setting.now) (range_end gap - range_start gap) report.old report.new) S.faults S.taken D.frame_faults D.seen_gone D.unmounted D.work D.state source.old source.new door.old door.new }
+    ensures whole { result ≡ Ok true → Between (Whole (line A.tells A.blobs table.now setting.now) (range_end gap - range_start gap) report.old report.new) S.faults S.taken D.frame_faults D.seen_gone D.unmounted D.work D.state source.old source.new door.old door.new }
+    ensures frame { result ≡ Ok false → Rose (D.frame_faults door.old) (D.frame_faults door.new) }
+    ensures kept { SamePolicy (D.state door.old) (D.state door.new) }
+    ensures stored { result ≡ Ok true → IsTrue A.tells → (s : State) → D.state door.old ≡ Some s → D.state door.new ≡ Some (gap_stored (line A.tells A.blobs table.now setting.now) (D.actor door.old) file base gap s) }
+    ensures took { result ≡ Ok true → IsTrue A.tells → Took (S.taken source.old) (S.taken source.new) (slice_of (content_places A.blobs table.now.number file) (base + range_start gap) (range_end gap - range_start gap)) }
+{
+    match gap {
+        Some(gap) => fill(alloc, door, source, table, file, base, gap, setting, report),
+        None => Ok(true),
+    }
+}

@@ -1,0 +1,96 @@
+// The parts of a read, one after another.
+ghost use Rattle.std.specs.Option.{ForSome};
+ghost use Rattle.std.specs.Prelude.{◌≡◌, ◌<◌, ◌≤◌, ◌+◌, ◌-◌, ◌*◌, ◌/◌, min, IsTrue, OnOk, length};
+ghost use Rattle.region_ranges.specs.Keys.{IsConfig};
+ghost use Rattle.blob_parts.specs.Content.{content, slice_of};
+ghost use Rattle.blob_parts.specs.Tables.{file_length};
+ghost use Rattle.cache_door.specs.Doors.{nothing};
+ghost use Rattle.directory_input.specs.Causes.{IsCaused, refusal};
+ghost use Rattle.cache_reader.specs.Parts.{line};
+ghost use Rattle.cache_reader.specs.Going.{Between, is_memory};
+ghost use Rattle.cache_reader.specs.Filling.{PartGoes, is_answered};
+ghost use Rattle.cache_reader.specs.Alone.{went_read, Exactly, LastFits};
+
+use crate::Report;
+use crate::part::{Last, Setting, read_part};
+use blob_parts::PartTable;
+use cache_door::CacheDoor;
+use cache_outside::{Archive, BlobSource};
+use directory_input::BytesError;
+use region_ranges::ByteRange;
+use std::alloc::Global;
+
+/// The part of the range from `at` up to `end` that begins there: up to the end of the aligned range.
+fn part_from(at: u64, end: u64, range: u32) -> ByteRange
+    requires some { (at < end) × (0 < range) }
+    requires short { end ≤ 1099511623680 }
+    ensures start { result.start ≡ at }
+    ensures end { result.end ≡ min end (at / range * range + range) }
+    ensures one { (result.start < result.end) × (result.end ≤ end) × (result.start / range ≡ (result.end - 1) / range) }
+{
+    let next = at / range as u64 * range as u64 + range as u64;
+    ByteRange {
+        start: at,
+        end: end.min(next),
+    }
+}
+
+/// Reads bytes of a file from place `at` on, part by part.
+pub(crate) fn read_parts<A: Archive, D: CacheDoor<A>, S: BlobSource<A>>(
+    alloc: Global,
+    door: &mut D,
+    source: &mut S,
+    table: &PartTable<A>,
+    file: u32,
+    at: u64,
+    setting: &Setting,
+    last: &mut Option<Last>,
+    out: &mut [u8],
+    report: &mut Report,
+) -> Result<(), BytesError>
+    requires free { D.hold door.old ≡ nothing }
+    requires own { D.config door.old ≡ setting.now.config }
+    requires limits { IsConfig setting.now.config }
+    requires below { setting.now.mount < 4096 }
+    requires file { file < length table.now.files }
+    requires inside { at + length out.old ≤ file_length table.now file }
+    requires reach { ForSome last.old (λ l. l.region < setting.now.config.regions) }
+    requires fits { LastFits setting.now.mount setting.now.time last.old (D.state door.old) }
+    ensures stays { D.stays door.old door.new }
+    ensures hold { D.hold door.new ≡ nothing }
+    ensures reach { ForSome last.new (λ l. l.region < setting.now.config.regions) }
+    ensures same { S.which source.new ≡ S.which source.old }
+    ensures cause { IsCaused (S.faults source.old) (S.faults source.new) setting.now.mount (D.seen_gone door.new setting.now.mount) (refusal result) }
+    ensures bytes { IsTrue A.tells → IsTrue (D.frames_tell door.old) → OnOk result (out.new ≡ slice_of (content A.blobs table.now.number file) at (length out.old)) }
+    ensures part { Between (PartGoes (line A.tells A.blobs table.now setting.now) (length out.old) (is_answered result) (is_memory result) report.old report.new) S.faults S.taken D.frame_faults D.seen_gone D.unmounted D.work D.state source.old source.new door.old door.new }
+    ensures fits { LastFits setting.now.mount setting.now.time last.new (D.state door.new) }
+    ensures exact { Between (Exactly (line A.tells A.blobs table.now setting.now) (went_read (line A.tells A.blobs table.now setting.now) (D.actor door.old) (record { file = file; at = at; size = length out.old })) (is_memory result) report.old report.new) S.faults S.taken D.frame_faults D.seen_gone D.unmounted D.work D.state source.old source.new door.old door.new }
+{
+    let _length = table.length(file);
+    door.lesson();
+    let end = at + out.len() as u64;
+    let mut done = 0;
+    while done < out.len() {
+        let part = part_from(at + done as u64, end, setting.config.range);
+        let upto = done + (part.end - part.start) as usize;
+        match read_part(
+            alloc,
+            door,
+            source,
+            table,
+            file,
+            part,
+            setting,
+            last,
+            &mut out[done..upto],
+            report,
+        ) {
+            Ok(()) => done = upto,
+            Err(e) => {
+                door.lesson();
+                return Err(e);
+            }
+        }
+    }
+    Ok(())
+}
