@@ -49,7 +49,8 @@ fn shown_of(alloc: Global, shard: &Manifest, hits: &HitList) -> Result<Shown, Al
     Ok(shown)
 }
 
-fn found_line(alloc: Global, shard: &Manifest, hits: &Hits) -> Line
+/// The line of these hits.
+pub(crate) fn found_line(alloc: Global, shard: &Manifest, hits: &Hits) -> Line
     requires { All (IsHitOf shard.now.segments) hits.now.list }
     ensures { IsAllowed true (Line.Hits hits.now.total (map (named shard.now.segments) (map pair_of hits.now.list))) 0 0 result }
 {

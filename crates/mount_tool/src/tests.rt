@@ -76,7 +76,7 @@ fn add(alloc: Global, blobs: &mut Blobs, name: &[u8], bytes: Text) -> Result<(),
 }
 
 #[tactic(auto, unfolding(crate::specs::Worked::worked))]
-fn worked_blobs(alloc: Global) -> Result<Blobs, AllocError>
+pub(crate) fn worked_blobs(alloc: Global) -> Result<Blobs, AllocError>
     ensures { IfOk result (λ b. b ≡ worked) }
 {
     let mut blobs = Blobs::new(alloc);
