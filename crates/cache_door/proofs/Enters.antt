@@ -14,6 +14,7 @@ use Rattle.cache_door.specs.declared.answers.Want.{Want}
 use Rattle.cache_door.specs.declared.hold.Hold.{Hold}
 use Rattle.cache_door.specs.Machine as machine
 use Rattle.cache_door.specs.Machine.{State, Cell, cell_at, hold_at, with_cell, settled_by, evicted, evicted_by, room_by, unheld_by, make_room, no_cell}
+use Rattle.cache_door.specs.Counters.{CountersRisen, counters_same}
 use Rattle.cache_door.specs.Cores.{CoreView, view_at, all_tell, cell_of, state_of, no_frame, Later}
 use Rattle.cache_door.proofs.Places.{same_is}
 use Rattle.cache_door.proofs.Policies.{settled_all}
@@ -36,6 +37,7 @@ module _ (v : CoreView) (r : ℕ) (y : CellView) (within : r < length v.cells) (
     steady = steady_same v r y within frame;
     faults = faults_later v r y within frame;
     stands = faults_stand v r y within frame;
+    counters = counters_same v.policy;
   }
 
   pub changed_view : view_at changed.cells r ≡ y
@@ -93,15 +95,15 @@ room_find tag holds p e =
     ]
 
 -- the policy alone changes
-pub policy_later : (v u : CoreView) (p : PolicyView) → u ≡ record v { policy = p } → Later v u
-policy_later v u p e = let P : CoreView → Type 0 = λ q. Later v q in subst P (sym e) (record { config = refl; actors = refl; tell = refl; steady = refl; faults = omega arith; stands = λ t. refl })
+pub policy_later : (v u : CoreView) (p : PolicyView) → CountersRisen v.policy p → u ≡ record v { policy = p } → Later v u
+policy_later v u p h e = let P : CoreView → Type 0 = λ q. Later v q in subst P (sym e) (record { config = refl; actors = refl; tell = refl; steady = refl; faults = omega arith; stands = λ t. refl; counters = h })
 
 -- and a cell is assigned
-pub assigned_later : (v u : CoreView) (r : ℕ) (c : Region) (p : PolicyView) → r < length v.cells → u ≡ record v { policy = p; cells = set v.cells r (with_region c (view_at v.cells r)) } → Later v u
-assigned_later v u r c p within e =
+pub assigned_later : (v u : CoreView) (r : ℕ) (c : Region) (p : PolicyView) → CountersRisen v.policy p → r < length v.cells → u ≡ record v { policy = p; cells = set v.cells r (with_region c (view_at v.cells r)) } → Later v u
+assigned_later v u r c p h within e =
     let P : CoreView → Type 0 = λ q. Later v q in
     let l = changed_later v r (with_region c (view_at v.cells r)) within refl in
-    subst P (sym e) (record { config = refl; actors = refl; tell = l.tell; steady = l.steady; faults = l.faults; stands = l.stands })
+    subst P (sym e) (record { config = refl; actors = refl; tell = l.tell; steady = l.steady; faults = l.faults; stands = l.stands; counters = h })
 
 -- ---- the entry of a mapped key
 

@@ -13,6 +13,7 @@ use Rattle.cache_door.specs.Machine as machine
 use Rattle.cache_door.specs.Machine.{State, Cell, cell_at, hold_at, with_hold, with_cell, no_gap}
 use Rattle.cache_door.specs.Good.{GoodCell, HoldFits}
 use Rattle.cache_door.specs.Doors.{Told, told_hold}
+use Rattle.cache_door.specs.Counters.{counters_same}
 use Rattle.cache_door.specs.Cores.{CoreView, view_at, all_tell, cell_of, state_of, no_frame, IsKept, Later}
 use Rattle.cache_door.proofs.Keeps.{Changes}
 use Rattle.cache_door.proofs.Calls.{fail_changes, leave_changes}
@@ -46,6 +47,7 @@ module _ {tells : Bool} {files : ℕ → ℕ → List ℕ} (v : CoreView) (kept 
     steady = steady_same v r y inside frame;
     faults = faults_later v r y inside frame;
     stands = faults_stand v r y inside frame;
+    counters = counters_same v.policy;
   }
 
   pub left_state : state_of left ≡ with_hold a o (with_cell r (cell_of (all_tell v.cells) y) (state_of v))

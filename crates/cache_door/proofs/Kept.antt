@@ -1,5 +1,5 @@
 -- What each call leaves of a core is kept.
-use Rattle.std.proofs.Common.{arith, ◌≡◌, ◌<◌, ℕ, Bool, true, List, [], ◌++◌, sym, subst, ◌∙◌, ap, inl, inr, length, set, Option, None}
+use Rattle.std.proofs.Common.{arith, ◌≡◌, ◌<◌, ℕ, Bool, true, List, [], ◌++◌, refl, sym, subst, ◌∙◌, ap, inl, inr, length, set, Option, None}
 use Rattle.std.specs.Prelude.{IsTrue, slice_set, if◌then◌else◌}
 use Rattle.std.proofs.lemmas.Bool.{cases_eq, cases_Bool, false≢true}
 use Rattle.std.proofs.lemmas.List.{get_or-set_same, get_or-set_other, length-set}
@@ -14,7 +14,8 @@ use Rattle.cache_door.specs.declared.hold.Hold.{Hold}
 use Rattle.cache_door.specs.declared.work.Work.{Work}
 use Rattle.cache_door.specs.Machine.{State, with_hold, settled, settled_by}
 use Rattle.cache_door.specs.Good.{Good, GoodCell}
-use Rattle.cache_door.specs.Cores.{CoreView, view_at, all_tell, cell_of, state_of, no_frame, IsKept}
+use Rattle.cache_door.specs.Counters.{CountersRisen, counters_on, counters_cleared, counters_settled}
+use Rattle.cache_door.specs.Cores.{CoreView, view_at, all_tell, cell_of, state_of, no_frame, IsKept, Later}
 use Rattle.cache_door.proofs.Keeps.{Changes, keeps}
 use Rattle.cache_door.proofs.Policies.{PolicyChanges, policy_keeps, decay_changes, clear_changes, settled_changes}
 use Rattle.cache_door.proofs.Frames.{state_set, length_map}
@@ -111,3 +112,13 @@ module _ {tells : Bool} {files : ℕ → ℕ → List ℕ} (v : CoreView) (r : �
         subst P (sym (state_set v r c inside frame)) (keeps (state_of v) a r (cell_of (all_tell v.cells) c) o kept.good now);
     sized = set_sized;
   }
+
+-- ---- the counters after a clear
+
+pub cleared_later : (v u : CoreView) (m : ℕ) (p q : PolicyView) (g : List Bool) (w : Work) → v ≡ u → p ≡ clear m v.policy → q ≡ settled_by v.holds p → Later u (record v { policy = q; gone = g; work = w })
+cleared_later v u m p q g w is e f =
+    let P : CoreView → Type 0 = λ x. Later x (record v { policy = q; gone = g; work = w }) in
+    let Q : PolicyView → Type 0 = λ x. CountersRisen v.policy x in
+    let first : CountersRisen v.policy p = subst Q (sym e) (counters_cleared m v.policy) in
+    let second : CountersRisen v.policy q = subst Q (sym f) (counters_on v.policy p (settled_by v.holds p) first (counters_settled v.holds p)) in
+    subst P is (record { config = refl; actors = refl; tell = refl; steady = refl; faults = omega arith; stands = λ t. refl; counters = second })

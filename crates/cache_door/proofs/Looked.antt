@@ -24,6 +24,7 @@ use Rattle.cache_door.specs.Machine.{State, Cell, cell_at, hold_at, with_cell, t
 use Rattle.cache_door.specs.Good.{Good}
 use Rattle.cache_door.specs.Doors.{Told, told_hold, IsWant}
 use Rattle.cache_door.proofs.Places.{is_same}
+use Rattle.cache_door.specs.Counters.{counters_same}
 use Rattle.cache_door.specs.Cores.{CoreView, view_at, all_tell, all_steady, all_faults, cell_of, state_of, no_frame, IsKept, Later}
 use Rattle.cache_door.proofs.Weighs.{total-set, total-at}
 use Rattle.cache_door.proofs.Found.{found_ticket}
@@ -66,6 +67,7 @@ module _ {tells : Bool} {files : ℕ → ℕ → List ℕ} (v u : CoreView) (is 
     steady = steady_same v r y within frame;
     faults = faults_later v r y within frame;
     stands = faults_stand v r y within frame;
+    counters = counters_same v.policy;
   })
 
   -- a fault of the one frame is one of all

@@ -9,6 +9,7 @@ use Rattle.cache_door.specs.declared.hold.Hold.{Hold}
 use Rattle.cache_door.specs.declared.work.Work.{Work}
 use Rattle.cache_door.specs.Machine.{State, Cell}
 use Rattle.cache_door.specs.Good.{Good}
+use Rattle.cache_door.specs.Counters.{CountersRisen}
 
 pub record CoreView : Type 0 where
   pub config : Config
@@ -67,3 +68,4 @@ pub record Later (old new : CoreView) : Type 0 where
   pub steady : all_steady new.cells ≡ all_steady old.cells
   pub faults : all_faults old.cells ≤ all_faults new.cells
   pub stands : IsTrue (all_steady old.cells) → all_faults new.cells ≡ all_faults old.cells
+  pub counters : CountersRisen old.policy new.policy

@@ -3,6 +3,7 @@ pub mod Good
 pub mod Takes
 pub mod Doors
 pub mod Choices
+pub mod Counters
 pub mod Cores
 pub mod Claims
 pub mod Stays

@@ -22,3 +22,4 @@ pub use hold::Hold;
 pub use laws::{claims_absent, one_owner, present_kept};
 pub use region_cell::Taken;
 pub use work::Work;
+pub use claims::{claim, look};

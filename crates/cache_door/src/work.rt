@@ -94,6 +94,17 @@ impl Work {
         self.rest();
     }
 
+    /// Another's counts are added.
+    pub fn add(&mut self, other: &Work)
+        ensures { Works self.old self.new other.now }
+    {
+        self.turned_away = self.turned_away.saturating_add(other.turned_away);
+        self.stored = self.stored.saturating_add(other.stored);
+        self.decays = self.decays.saturating_add(other.decays);
+        self.clears = self.clears.saturating_add(other.clears);
+        self.rest();
+    }
+
     /// There was a clear.
     pub fn clear(&mut self)
         ensures { Works self.old self.new (record no_work { clears = 1 }) }
