@@ -6,7 +6,7 @@ use Rattle.std.proofs.lemmas.Bool.Decides.{nat_tests}
 use Rattle.region_ranges.specs.declared.ranges.ByteRange.{ByteRange}
 use Rattle.region_ranges.specs.Keys.{free_tag, tag_of}
 use Rattle.sparse_tracker.specs.declared.gaps.OpenGap.{OpenGap}
-use Rattle.sparse_tracker.specs.Letters.{Tracker, least_unused, numbers, ids, open_gap_at, claimed_run, wait_for_range}
+use Rattle.sparse_tracker.specs.ByteStates.{Tracker, least_unused, numbers, ids, open_gap_at, claimed_run, wait_for_range}
 use Rattle.sparse_tracker.specs.Weights.{by_ticket, by_gap, tickets_weigh, gaps_weigh, TicketWeights, GapWeights}
 use Rattle.freq_lists.specs.Lists.{is_in, times_in}
 use Rattle.cache_policy.specs.Policy.{PolicyView, tag_at}

@@ -4,7 +4,7 @@ use Rattle.std.specs.Prelude.{◌==◌, slice_get}
 use Rattle.std.proofs.lemmas.Bool.{cases_Bool}
 use Rattle.region_ranges.specs.declared.ranges.ByteRange.{ByteRange}
 use Rattle.region_ranges.specs.Ranges.{aligned}
-use Rattle.sparse_tracker.specs.Letters.{absent}
+use Rattle.sparse_tracker.specs.ByteStates.{absent}
 use Rattle.sparse_tracker.specs.Places.{ClaimPlaces}
 use Rattle.region_cell.specs.Cells.{Region, len_of, claim_run, range_round}
 use Rattle.region_cell.proofs.Orders.{part_gives}
@@ -25,7 +25,7 @@ held_is r q o p e = (cc, cc)
 
 -- the run that a claim takes in a cell of the wanted length
 run_absent : ClaimPlaces → (range i : ℕ) (want : Want) (c : Region) (g : ByteRange) → 0 < range → want.sub.start < want.sub.end → want.sub.end ≤ len_of c → want.sub.start / range ≡ (want.sub.end - 1) / range
-    → claim_run range want.sub c ≡ Some g → g.start ≤ i → i < g.end → slice_get c.tracker.letters i ≡ Some absent
+    → claim_run range want.sub c ≡ Some g → g.start ≤ i → i < g.end → slice_get c.tracker.byte_states i ≡ Some absent
 run_absent places range i want c g some first most one e low high =
     let p = part_gives want.sub.start range (want.sub.start / range) some refl in
     let q = part_gives (want.sub.end - 1) range (want.sub.start / range) some (sym one) in

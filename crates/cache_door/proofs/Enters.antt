@@ -22,12 +22,12 @@ use Rattle.cache_door.proofs.Frames.{cell_is, state_set, length_map, set_same, t
 use Rattle.cache_door.proofs.Held.{frame_same}
 
 -- a cell with another number of claims for which there is room
-module _ (v : CoreView) (r : ℕ) (y : CellView) (within : r < length v.cells) (frame_is : y.note.frame ≡ (view_at v.cells r).note.frame) where
+module _ (v : CoreView) (r : ℕ) (y : CellView) (within : r < length v.cells) (frame_is : y.metadata.frame ≡ (view_at v.cells r).metadata.frame) where
   abbrev pub changed : CoreView
   changed = record v { cells = set v.cells r y }
 
-  abbrev frame : FrameStays (view_at v.cells r).note.frame y.note.frame
-  frame = frame_same (view_at v.cells r).note.frame y.note.frame frame_is
+  abbrev frame : FrameStays (view_at v.cells r).metadata.frame y.metadata.frame
+  frame = frame_same (view_at v.cells r).metadata.frame y.metadata.frame frame_is
 
   pub changed_later : Later v changed
   changed_later = record {
@@ -55,9 +55,9 @@ spare_state v r n within =
 
 -- a cell that is assigned
 pub assigned_state : (v : CoreView) (r tag len : ℕ) (p : PolicyView) → r < length v.cells
-    → state_of (record v { policy = p; cells = set v.cells r (with_region (cells.assign tag len (view_at v.cells r).note.region) (view_at v.cells r)) }) ≡ record (machine.with_region r (cells.assign tag len (cell_at (state_of v) r).region) (state_of v)) { policy = p }
+    → state_of (record v { policy = p; cells = set v.cells r (with_region (cells.assign tag len (view_at v.cells r).metadata.region) (view_at v.cells r)) }) ≡ record (machine.with_region r (cells.assign tag len (cell_at (state_of v) r).region) (state_of v)) { policy = p }
 assigned_state v r tag len p within =
-    let y = with_region (cells.assign tag len (view_at v.cells r).note.region) (view_at v.cells r) in
+    let y = with_region (cells.assign tag len (view_at v.cells r).metadata.region) (view_at v.cells r) in
     let e = cell_is v r within in
     let c : cell_of (all_tell v.cells) y ≡ record { region = cells.assign tag len (cell_at (state_of v) r).region; bytes = (cell_at (state_of v) r).bytes } =
     ap (λ (q : Cell). let d : Cell = record { region = cells.assign tag len q.region; bytes = q.bytes } in d) (sym e) in
@@ -120,8 +120,8 @@ module _ (u0 u1 : CoreView) (r n : ℕ) (within : r < length u0.cells) (reserved
   pub reserved_view : view_at u1.cells r ≡ record (view_at u0.cells r) { spare = n }
   reserved_view = ap (λ (q : CoreView). view_at q.cells r) reserved ∙ changed_view u0 r (record (view_at u0.cells r) { spare = n }) within refl
 
-  pub reserved_len : len_of (view_at u1.cells r).note.region ≡ len_of (view_at u0.cells r).note.region
-  reserved_len = ap (λ (c : CellView). len_of c.note.region) reserved_view
+  pub reserved_len : len_of (view_at u1.cells r).metadata.region ≡ len_of (view_at u0.cells r).metadata.region
+  reserved_len = ap (λ (c : CellView). len_of c.metadata.region) reserved_view
 
   pub reserved_room : 0 < n → 0 < (view_at u1.cells r).spare
   reserved_room h = let P : CellView → Type 0 = λ c. 0 < c.spare in subst P (sym reserved_view) h
@@ -158,7 +158,7 @@ module _ (u0 u1 : CoreView) (r n : ℕ) (within : r < length u0.cells) (reserved
         ∙ ap (λ (p : PolicyView). let s : State = record (state_of u1) { policy = touch r now p } in s) reserved_policy
         ∙ ap (λ (q : State). let s : State = record q { policy = touch r now u0.policy } in s) reserved_state
 
-    pub mapped_entry : u2 ≡ record u1 { policy = touch r now u1.policy } → len_of (view_at u0.cells r).note.region ≡ want.len
+    pub mapped_entry : u2 ≡ record u1 { policy = touch r now u1.policy } → len_of (view_at u0.cells r).metadata.region ≡ want.len
         → machine.hold a r want (state_of u2) ≡ machine.enter_at (Some r) a want now (state_of u0)
     mapped_entry e l =
         let c : len_of (cell_at (state_of u0) r).region ≡ want.len = ap (λ (q : Cell). len_of q.region) (cell_is u0 r within) ∙ l in
@@ -172,7 +172,7 @@ module _ (u0 u1 : CoreView) (r n : ℕ) (within : r < length u0.cells) (reserved
         ∙ ap (λ (q : State). let s : State = record q { policy = room_by u0.holds u0.policy } in s) reserved_state
 
     pub other_entry : (u3 : CoreView) → u2 ≡ record u1 { policy = room_by u1.holds u1.policy } → r < length u2.cells
-        → u3 ≡ record u2 { policy = map_front r (tag_of want.key) now u2.policy; cells = set u2.cells r (with_region (cells.assign (tag_of want.key) want.len (view_at u2.cells r).note.region) (view_at u2.cells r)) }
+        → u3 ≡ record u2 { policy = map_front r (tag_of want.key) now u2.policy; cells = set u2.cells r (with_region (cells.assign (tag_of want.key) want.len (view_at u2.cells r).metadata.region) (view_at u2.cells r)) }
         → head (room_by u0.holds u0.policy).free ≡ Some r
         → machine.hold a r want (state_of u3) ≡ machine.enter_at None a want now (state_of u0)
     other_entry u3 e inside f front =

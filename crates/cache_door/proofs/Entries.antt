@@ -18,7 +18,7 @@ use Rattle.cache_door.specs.declared.work.Work.{Work}
 use Rattle.cache_door.specs.Machine as machine
 use Rattle.cache_door.specs.Machine.{State, Cell, cell_at, hold_at, with_hold, with_cell, settled, settled_by, evicted, evicted_by, room_by, is_held, is_held_by, unheld_by, hold_on}
 use Rattle.cache_door.specs.Good.{Good, GoodCell}
-use Rattle.cache_door.specs.Doors.{Told, told_hold, nothing, IsEntry}
+use Rattle.cache_door.specs.Doors.{HoldView, hold_view, nothing, IsEntry}
 use Rattle.cache_door.specs.Cores.{CoreView, view_at, all_tell, cell_of, state_of, no_frame, IsKept, Later}
 use Rattle.cache_door.proofs.Places.{same_is, other_is, head_passes}
 use Rattle.cache_door.proofs.Policies.{touch_changes, settled_changes, unmap_changes}
@@ -32,9 +32,9 @@ use Rattle.cache_door.proofs.Held.{frame_same, read_is, left_later, left_state}
 pub work_kept : {tells : Bool} {files : ℕ → ℕ → List ℕ} (v : CoreView) (w : Work) → IsKept tells files v → IsKept tells files (record v { work = w })
 work_kept v w kept = record { good = kept.good; sized = kept.sized }
 
-pub none_held : (o : Option Hold) → told_hold o ≡ nothing → o ≡ None
+pub none_held : (o : Option Hold) → hold_view o ≡ nothing → o ≡ None
 none_held None e = refl
-none_held (Some h) e = absurd (false≢true (sym (ap (λ (t : Told). t.held) e)))
+none_held (Some h) e = absurd (false≢true (sym (ap (λ (t : HoldView). t.held) e)))
 
 -- ---- an access
 
@@ -102,11 +102,11 @@ module _ {tells : Bool} {files : ℕ → ℕ → List ℕ} (v : CoreView) (r : �
 
   -- a call that changes the cell's region alone
   module _ (new : Region) (called : y ≡ record (with_region new x) { spare = y.spare }) where
-    abbrev pub x_frame : FrameStays (view_at v.cells r).note.frame y.note.frame
-    x_frame = frame_same (view_at v.cells r).note.frame y.note.frame (ap (λ (c : CellView). c.note.frame) called ∙ sym (ap (λ (c : CellView). c.note.frame) x_at))
+    abbrev pub x_frame : FrameStays (view_at v.cells r).metadata.frame y.metadata.frame
+    x_frame = frame_same (view_at v.cells r).metadata.frame y.metadata.frame (ap (λ (c : CellView). c.metadata.frame) called ∙ sym (ap (λ (c : CellView). c.metadata.frame) x_at))
 
-    pub x_range : y.note.range ≡ (view_at v.cells r).note.range
-    x_range = ap (λ (c : CellView). c.note.range) called ∙ sym (ap (λ (c : CellView). c.note.range) x_at)
+    pub x_range : y.metadata.range ≡ (view_at v.cells r).metadata.range
+    x_range = ap (λ (c : CellView). c.metadata.range) called ∙ sym (ap (λ (c : CellView). c.metadata.range) x_at)
 
     pub x_good : cells.IsGood tells files y → GoodCell tells (all_tell v.cells) files v.config (cell_of (all_tell v.cells) y)
     x_good good = new_good v r y kept within x_frame x_range good
@@ -128,7 +128,7 @@ spare_only (Err e) x y n ok err = let b = err in b ∙ ap (λ (m : ℕ). let c :
 
 pub spare_kept : {tells : Bool} {files : ℕ → ℕ → List ℕ} (v : CoreView) (r : ℕ) (x y : CellView) → IsKept tells files v → r < length v.cells → x ≡ get_or v.cells r x → y ≡ record x { spare = y.spare } → IsKept tells files (record v { cells = set v.cells r y })
 spare_kept {tells} {files} v r x y kept within read e =
-    let new = x.note.region in
+    let new = x.metadata.region in
     let frame = x_frame v r x y kept within read new e in
     let c : machine.with_region r new (state_of v) ≡ state_of v =
     ap (λ (q : Region). machine.with_region r q (state_of v)) (sym (ap (λ (q : Cell). q.region) (cell_x v r x y kept within read)))
@@ -151,22 +151,22 @@ module _ {tells : Bool} {files : ℕ → ℕ → List ℕ} (v : CoreView) (r : �
   off : is_held s r ≡ false
   off = free_unheld s r kept.good (head_in r v.policy.free front)
 
-  region_x : (cell_at s r).region ≡ x.note.region
+  region_x : (cell_at s r).region ≡ x.metadata.region
   region_x = ap (λ (q : Cell). q.region) (cell_x v r x x kept within read)
 
-  pub assign_gaps : x.note.region.tracker.gaps ≡ []
+  pub assign_gaps : x.metadata.region.tracker.gaps ≡ []
   assign_gaps = sym (ap (λ (q : Region). q.tracker.gaps) region_x) ∙ no_gaps s r kept.good within_s off
 
-  pub assign_tickets : x.note.region.tracker.tickets ≡ []
+  pub assign_tickets : x.metadata.region.tracker.tickets ≡ []
   assign_tickets = sym (ap (λ (q : Region). q.tracker.tickets) region_x) ∙ no_tickets s r kept.good within_s off
 
-  pub assign_size : x.note.frame.size ≡ v.config.region
-  assign_size = let P : CellView → Type 0 = λ q. q.note.frame.size ≡ v.config.region in subst P (read_is v.cells r x (new_cell no_frame 0 []) read within) (kept.sized r within).1
+  pub assign_size : x.metadata.frame.size ≡ v.config.region
+  assign_size = let P : CellView → Type 0 = λ q. q.metadata.frame.size ≡ v.config.region in subst P (read_is v.cells r x (new_cell no_frame 0 []) read within) (kept.sized r within).1
 
   pub assign_kept : (y : CellView) (p : PolicyView) (tag now len : ℕ) → tag ≢ free_tag → p ≡ map_front r tag now v.policy → policy.IsGood p → ((j : ℕ) → tag_at p j ≡ (if j == r then Some tag else tag_at v.policy j))
-      → y ≡ with_region (cells.assign tag len x.note.region) x → cells.IsGood tells files y → IsKept tells files (record v { policy = p; cells = set v.cells r y })
+      → y ≡ with_region (cells.assign tag len x.metadata.region) x → cells.IsGood tells files y → IsKept tells files (record v { policy = p; cells = set v.cells r y })
   assign_kept y p tag now len key e good tags assigned cell =
-      let new = cells.assign tag len x.note.region in
+      let new = cells.assign tag len x.metadata.region in
       let called : y ≡ record (with_region new x) { spare = y.spare } = assigned ∙ ap (λ (m : ℕ). let c : CellView = record (with_region new x) { spare = m } in c) (sym (ap (λ (c : CellView). c.spare) assigned)) in
       let frame = x_frame v r x y kept within read new called in
       let P : PolicyView → Type 0 = λ q. policy.IsGood q × ((j : ℕ) → tag_at q j ≡ (if j == r then Some tag else tag_at v.policy j)) in
@@ -177,7 +177,7 @@ module _ {tells : Bool} {files : ℕ → ℕ → List ℕ} (v : CoreView) (r : �
         key = key;
         policy = g.0;
         tags = g.1;
-        assigned = ap (λ (c : CellView). c.note.region) assigned ∙ sym (ap (λ (q : Region). cells.assign tag len q) region_x);
+        assigned = ap (λ (c : CellView). c.metadata.region) assigned ∙ sym (ap (λ (q : Region). cells.assign tag len q) region_x);
         cell = x_good v r x y kept within read new called cell;
       } in
       let Q : PolicyView → Type 0 = λ q. IsKept tells files (record v { policy = q; cells = set v.cells r y }) in
@@ -203,36 +203,36 @@ module _ {tells : Bool} {files : ℕ → ℕ → List ℕ} (v u : CoreView) (is 
   mapped : tag_at v.policy r ≡ Some (tag_of want.key)
   mapped = let P : CoreView → Type 0 = λ q. tag_at q.policy r ≡ Some (tag_of want.key) in subst P (sym is) mapped_u
 
-  region_t : x.note.region ≡ (cell_at t r).region
+  region_t : x.metadata.region ≡ (cell_at t r).region
   region_t = sym (ap (λ (q : Cell). q.region) (cell_x v r x x kept within read))
 
-  pub range_t : x.note.range ≡ v.config.range
-  range_t = let P : CellView → Type 0 = λ q. q.note.range ≡ v.config.range in subst P (read_is v.cells r x (new_cell no_frame 0 []) read within) (kept.sized r within).0
+  pub range_t : x.metadata.range ≡ v.config.range
+  range_t = let P : CellView → Type 0 = λ q. q.metadata.range ≡ v.config.range in subst P (read_is v.cells r x (new_cell no_frame 0 []) read within) (kept.sized r within).0
 
   record Facts (y : CellView) (h : Hold) (g : Option ByteRange) (n : ℕ) (R : Region) : Type 0 where
-    cell : y.note.region ≡ cells.claim n want.sub R
+    cell : y.metadata.region ≡ cells.claim n want.sub R
     hold : h ≡ hold_on n r want R
     gap : g ≡ claim_run n want.sub R
 
-  facts : (y : CellView) (h : Hold) (g : Option ByteRange) → Facts y h g x.note.range x.note.region → Facts y h g t.config.range (cell_at t r).region
+  facts : (y : CellView) (h : Hold) (g : Option ByteRange) → Facts y h g x.metadata.range x.metadata.region → Facts y h g t.config.range (cell_at t r).region
   facts y h g f =
-      let P : ℕ → Type 0 = λ n. Facts y h g n x.note.region in
+      let P : ℕ → Type 0 = λ n. Facts y h g n x.metadata.region in
       let Q : Region → Type 0 = λ q. Facts y h g v.config.range q in
       subst Q region_t (subst P range_t f)
 
   some_run : (g o : Option ByteRange) → g ≡ o → IfSome g (λ q. q.start < q.end) → IfSome o (λ q. q.start < q.end)
   some_run g o e h = let P : Option ByteRange → Type 0 = λ q. IfSome q (λ z. z.start < z.end) in subst P e h
 
-  pub hold_all : (y : CellView) (h : Hold) (g : Option ByteRange) → y ≡ record (with_region (cells.claim x.note.range want.sub x.note.region) x) { spare = x.spare - 1 } → cells.IsGood tells files y
-      → h ≡ hold_on x.note.range r want x.note.region → g ≡ claim_run x.note.range want.sub x.note.region → IfSome g (λ q. q.start < q.end) → TicketWeights → GapWeights
+  pub hold_all : (y : CellView) (h : Hold) (g : Option ByteRange) → y ≡ record (with_region (cells.claim x.metadata.range want.sub x.metadata.region) x) { spare = x.spare - 1 } → cells.IsGood tells files y
+      → h ≡ hold_on x.metadata.range r want x.metadata.region → g ≡ claim_run x.metadata.range want.sub x.metadata.region → IfSome g (λ q. q.start < q.end) → TicketWeights → GapWeights
       → let new : CoreView = record v { cells = set v.cells r y; holds = set v.holds a (Some h) } in
       IsKept tells files new × (state_of new ≡ (machine.hold a r want (state_of u)).1) × Later u new × (Held r g ≡ (machine.hold a r want (state_of u)).0)
   hold_all y h g called good hold gap some tickets gaps =
-      let n = cells.claim x.note.range want.sub x.note.region in
+      let n = cells.claim x.metadata.range want.sub x.metadata.region in
       let called2 : y ≡ record (with_region n x) { spare = y.spare } = called ∙ ap (λ (m : ℕ). let c : CellView = record (with_region n x) { spare = m } in c) (sym (ap (λ (c : CellView). c.spare) called)) in
       let frame = x_frame v r x y kept within read n called2 in
       let range = x_range v r x y kept within read n called2 in
-      let f = facts y h g (record { cell = ap (λ (c : CellView). c.note.region) called; hold = hold; gap = gap }) in
+      let f = facts y h g (record { cell = ap (λ (c : CellView). c.metadata.region) called; hold = hold; gap = gap }) in
       let m = kept.good.mapped r (tag_of want.key) mapped in
       let l = length_map (cell_of (all_tell v.cells)) v.cells in
       let change = hold_changes tickets gaps t a r want (cell_of (all_tell v.cells) y) actor (omega (arith, l, within)) none m.0 m.1 (mapped_busy v.policy r (tag_of want.key) kept.good.policy mapped)
@@ -247,22 +247,22 @@ module _ {tells : Bool} {files : ℕ → ℕ → List ℕ} (v u : CoreView) (is 
         cell_kept v r y kept within frame range a (Some k) v.work change,
         left_state v kept a r y within frame (Some k) v.work
             ∙ ap (λ (c : Cell). with_hold a (Some k) (with_cell r c t)) (x_cell v r x y kept within read n called2)
-            ∙ ap (λ (q : Region). with_hold a (Some k) (machine.with_region r q t)) (sym (ap (λ (c : CellView). c.note.region) called) ∙ f.cell)
+            ∙ ap (λ (q : Region). with_hold a (Some k) (machine.with_region r q t)) (sym (ap (λ (c : CellView). c.metadata.region) called) ∙ f.cell)
             ∙ subst A is refl,
         subst L is (left_later v kept a r y within frame (Some k) v.work),
         subst B is (ap (λ (o : Option ByteRange). Held r o) f.gap),
       )
 
-  pub hold_entry : len_of (view_at u.cells r).note.region ≡ want.len → (g : Option ByteRange)
-      → IfSome g (λ q. (q.start < q.end) × (want.sub.start / x.note.range * x.note.range ≤ q.start) × (q.end ≤ want.sub.start / x.note.range * x.note.range + x.note.range) × (q.end ≤ len_of x.note.region))
+  pub hold_entry : len_of (view_at u.cells r).metadata.region ≡ want.len → (g : Option ByteRange)
+      → IfSome g (λ q. (q.start < q.end) × (want.sub.start / x.metadata.range * x.metadata.range ≤ q.start) × (q.end ≤ want.sub.start / x.metadata.range * x.metadata.range + x.metadata.range) × (q.end ≤ len_of x.metadata.region))
       → IsEntry u.config want (Held r g)
   hold_entry l g f =
-      let Q : CoreView → Type 0 = λ q. len_of (view_at q.cells r).note.region ≡ want.len in
-      let n : len_of x.note.region ≡ want.len = sym (ap (λ (c : CellView). len_of c.note.region) (read_is v.cells r x (new_cell no_frame 0 []) read within)) ∙ subst Q (sym is) l in
+      let Q : CoreView → Type 0 = λ q. len_of (view_at q.cells r).metadata.region ≡ want.len in
+      let n : len_of x.metadata.region ≡ want.len = sym (ap (λ (c : CellView). len_of c.metadata.region) (read_is v.cells r x (new_cell no_frame 0 []) read within)) ∙ subst Q (sym is) l in
       let P : CoreView → Type 0 = λ q. IsEntry q.config want (Held r g) in
       let m = length_map (cell_of (all_tell v.cells)) v.cells in
       let R : ℕ → Type 0 = λ k. IfSome g (λ q. (q.start < q.end) × (want.sub.start / k * k ≤ q.start) × (q.end ≤ want.sub.start / k * k + k) × (q.end ≤ want.len)) in
-      let S : ℕ → Type 0 = λ k. IfSome g (λ q. (q.start < q.end) × (want.sub.start / x.note.range * x.note.range ≤ q.start) × (q.end ≤ want.sub.start / x.note.range * x.note.range + x.note.range) × (q.end ≤ k)) in
+      let S : ℕ → Type 0 = λ k. IfSome g (λ q. (q.start < q.end) × (want.sub.start / x.metadata.range * x.metadata.range ≤ q.start) × (q.end ≤ want.sub.start / x.metadata.range * x.metadata.range + x.metadata.range) × (q.end ≤ k)) in
       subst P is (omega (arith, m, within, kept.good.counts.cells), subst R range_t (subst S n f))
 
 pub first_fact : (g : Option ByteRange) (m n k : ℕ) → IfSome g (λ q. (q.start < q.end) × (m ≤ q.start) × (q.end ≤ n) × (q.end ≤ k)) → IfSome g (λ q. q.start < q.end)

@@ -67,35 +67,35 @@ gone_kept v mount kept = let good = kept.good in record {
 -- ---- a cell and a hold change
 
 -- a good cell is one of a good state
-pub good_cell : {tells : Bool} {files : ℕ → ℕ → List ℕ} (told : Bool) (config : Config) (c : CellView) → cells.IsGood tells files c → c.note.range ≡ config.range → c.note.frame.size ≡ config.region
-    → (IsTrue told → IsTrue c.note.frame.tells) → GoodCell tells told files config (cell_of told c)
+pub good_cell : {tells : Bool} {files : ℕ → ℕ → List ℕ} (told : Bool) (config : Config) (c : CellView) → cells.IsGood tells files c → c.metadata.range ≡ config.range → c.metadata.frame.size ≡ config.region
+    → (IsTrue told → IsTrue c.metadata.frame.tells) → GoodCell tells told files config (cell_of told c)
 good_cell {tells} {files} told config c good range size tell = record {
   tracker = good.tracker;
-  ranged = let P : ℕ → Type 0 = λ n. cells.IsRanged n c.note.region in subst P range good.cell.ranged;
+  ranged = let P : ℕ → Type 0 = λ n. cells.IsRanged n c.metadata.region in subst P range good.cell.ranged;
   bytes = λ u. rw u (good.bytes (tell u) ∙ size);
-  filled = λ t u. rw u (let P : ℕ → Type 0 = λ n. cells.IsFilled files n c.note.region c.bytes in subst P size (good.cell.filled t (tell u)));
-  whole = λ t. let P : ℕ → Type 0 = λ n. cells.IsWhole files n c.note.region in subst P size (good.cell.whole t);
+  filled = λ t u. rw u (let P : ℕ → Type 0 = λ n. cells.IsFilled files n c.metadata.region c.bytes in subst P size (good.cell.filled t (tell u)));
+  whole = λ t. let P : ℕ → Type 0 = λ n. cells.IsWhole files n c.metadata.region in subst P size (good.cell.whole t);
 }
 
 module _ {tells : Bool} {files : ℕ → ℕ → List ℕ} (v : CoreView) (r : ℕ) (c : CellView) (kept : IsKept tells files v) (inside : r < length v.cells)
-    (frame : FrameStays (view_at v.cells r).note.frame c.note.frame) (range : c.note.range ≡ (view_at v.cells r).note.range) where
-  pub one_tells : IsTrue (all_tell v.cells) → IsTrue c.note.frame.tells
-  one_tells h = elim (cases_Bool (view_at v.cells r).note.frame.tells) [
+    (frame : FrameStays (view_at v.cells r).metadata.frame c.metadata.frame) (range : c.metadata.range ≡ (view_at v.cells r).metadata.range) where
+  pub one_tells : IsTrue (all_tell v.cells) → IsTrue c.metadata.frame.tells
+  one_tells h = elim (cases_Bool (view_at v.cells r).metadata.frame.tells) [
     | inl t ↦ frame.tells ∙ t
-    | inr f ↦ absurd (false≢true (sym (list_all_at (λ (x : CellView). x.note.frame.tells) v.cells r (new_cell no_frame 0 []) inside f) ∙ h))
+    | inr f ↦ absurd (false≢true (sym (list_all_at (λ (x : CellView). x.metadata.frame.tells) v.cells r (new_cell no_frame 0 []) inside f) ∙ h))
   ]
 
-  pub set_sized : (k : ℕ) → k < length (set v.cells r c) → ((view_at (set v.cells r c) k).note.range ≡ v.config.range) × ((view_at (set v.cells r c) k).note.frame.size ≡ v.config.region)
+  pub set_sized : (k : ℕ) → k < length (set v.cells r c) → ((view_at (set v.cells r c) k).metadata.range ≡ v.config.range) × ((view_at (set v.cells r c) k).metadata.frame.size ≡ v.config.region)
   set_sized k h = elim (cases_eq r k) [
     | inl e ↦
-        let P : ℕ → Type 0 = λ j. ((view_at (set v.cells r c) j).note.range ≡ v.config.range) × ((view_at (set v.cells r c) j).note.frame.size ≡ v.config.region) in
+        let P : ℕ → Type 0 = λ j. ((view_at (set v.cells r c) j).metadata.range ≡ v.config.range) × ((view_at (set v.cells r c) j).metadata.frame.size ≡ v.config.region) in
         let s = kept.sized r inside in
         let w = get_or-set_same v.cells r c (new_cell no_frame 0 []) inside in
-        subst P e (ap (λ (x : CellView). x.note.range) w ∙ range ∙ s.0, ap (λ (x : CellView). x.note.frame.size) w ∙ frame.size ∙ s.1)
+        subst P e (ap (λ (x : CellView). x.metadata.range) w ∙ range ∙ s.0, ap (λ (x : CellView). x.metadata.frame.size) w ∙ frame.size ∙ s.1)
     | inr n ↦
         let s = kept.sized k (let l = length-set v.cells r c in omega (arith, l, h)) in
         let w = get_or-set_other v.cells r k c (new_cell no_frame 0 []) (λ e. n (sym e)) in
-        (ap (λ (x : CellView). x.note.range) w ∙ s.0, ap (λ (x : CellView). x.note.frame.size) w ∙ s.1)
+        (ap (λ (x : CellView). x.metadata.range) w ∙ s.0, ap (λ (x : CellView). x.metadata.frame.size) w ∙ s.1)
   ]
 
   pub new_good : cells.IsGood tells files c → GoodCell tells (all_tell v.cells) files v.config (cell_of (all_tell v.cells) c)

@@ -6,7 +6,7 @@ use Rattle.std.proofs.lemmas.Bool.{cases_Bool, false≢true}
 use Rattle.std.proofs.lemmas.List.Folds.{list_all_at}
 use Rattle.sparse_tracker.specs.declared.status.Status.TheVariants as status_of
 use Rattle.sparse_tracker.specs.declared.tickets.Ticket.{Ticket}
-use Rattle.sparse_tracker.specs.Letters.{Tracker, ticket_of, letters_in, is_absent, is_present, status}
+use Rattle.sparse_tracker.specs.ByteStates.{Tracker, ticket_of, byte_states_in, is_absent, is_present, status}
 use Rattle.sparse_tracker.specs.Weights.{total}
 use Rattle.cache_outside.specs.Causes.{Rose}
 use Rattle.blob_parts.specs.Content.{slice_of}
@@ -22,7 +22,7 @@ use Rattle.cache_door.specs.declared.answers.Glance.{Glance}
 use Rattle.cache_door.specs.declared.answers.Glance.TheVariants as glance
 use Rattle.cache_door.specs.Machine.{State, Cell, cell_at, hold_at, with_cell, taken_of, look_at}
 use Rattle.cache_door.specs.Good.{Good}
-use Rattle.cache_door.specs.Doors.{Told, told_hold, IsWant}
+use Rattle.cache_door.specs.Doors.{HoldView, hold_view, IsWant}
 use Rattle.cache_door.proofs.Places.{is_same}
 use Rattle.cache_door.specs.Counters.{counters_same}
 use Rattle.cache_door.specs.Cores.{CoreView, view_at, all_tell, all_steady, all_faults, cell_of, state_of, no_frame, IsKept, Later}
@@ -35,12 +35,12 @@ use Rattle.cache_door.proofs.Held.{read_is, held, inside, told_is, cell_here, fi
 -- ---- the state
 
 module _ {tells : Bool} {files : ℕ → ℕ → List ℕ} (v u : CoreView) (is : v ≡ u) (kept : IsKept tells files v) (r : ℕ) (within : r < length v.cells)
-    (x y : CellView) (at : x ≡ get_or v.cells r x) (same : y ≡ with_frame y.note.frame x) (stays : FrameStays x.note.frame y.note.frame) where
+    (x y : CellView) (at : x ≡ get_or v.cells r x) (same : y ≡ with_frame y.metadata.frame x) (stays : FrameStays x.metadata.frame y.metadata.frame) where
   x_is : view_at v.cells r ≡ x
   x_is = read_is v.cells r x (new_cell no_frame 0 []) at within
 
-  abbrev frame : FrameStays (view_at v.cells r).note.frame y.note.frame
-  frame = let P : CellView → Type 0 = λ c. FrameStays c.note.frame y.note.frame in subst P (sym x_is) stays
+  abbrev frame : FrameStays (view_at v.cells r).metadata.frame y.metadata.frame
+  frame = let P : CellView → Type 0 = λ c. FrameStays c.metadata.frame y.metadata.frame in subst P (sym x_is) stays
 
   cell_same : cell_of (all_tell v.cells) y ≡ cell_at (state_of v) r
   cell_same = ap (λ (c : CellView). cell_of (all_tell v.cells) c) same ∙ sym (cell_is v r within ∙ ap (λ (c : CellView). cell_of (all_tell v.cells) c) x_is)
@@ -56,7 +56,7 @@ module _ {tells : Bool} {files : ℕ → ℕ → List ℕ} (v u : CoreView) (is 
   pub seen_kept : (w : Work) → IsKept tells files (record v { cells = set v.cells r y; work = w })
   seen_kept w = record {
     good = let P : State → Type 0 = λ s. Good tells files s in subst P (sym (state_set v r y within frame ∙ with_same)) kept.good;
-    sized = set_sized v r y kept within frame (ap (λ (c : CellView). c.note.range) same ∙ sym (ap (λ (c : CellView). c.note.range) x_is));
+    sized = set_sized v r y kept within frame (ap (λ (c : CellView). c.metadata.range) same ∙ sym (ap (λ (c : CellView). c.metadata.range) x_is));
   }
 
   pub seen_later : (w : Work) → Later u (record v { cells = set v.cells r y; work = w })
@@ -71,29 +71,29 @@ module _ {tells : Bool} {files : ℕ → ℕ → List ℕ} (v u : CoreView) (is 
   })
 
   -- a fault of the one frame is one of all
-  pub seen_fault : Rose x.note.frame.faults y.note.frame.faults → Rose (all_faults u.cells) (all_faults (set v.cells r y))
+  pub seen_fault : Rose x.metadata.frame.faults y.metadata.frame.faults → Rose (all_faults u.cells) (all_faults (set v.cells r y))
   seen_fault rose =
-      let F : CellView → ℕ = λ c. c.note.frame.faults in
+      let F : CellView → ℕ = λ c. c.metadata.frame.faults in
       let P : CoreView → Type 0 = λ c. Rose (all_faults c.cells) (all_faults (set v.cells r y)) in
       let t = total-set F v.cells r y (new_cell no_frame 0 []) within in
       let a = total-at F v.cells r (new_cell no_frame 0 []) within in
       let e = ap F x_is in
-      let h : min (x.note.frame.faults + 1) 18446744073709551615 ≤ y.note.frame.faults = rose in
+      let h : min (x.metadata.frame.faults + 1) 18446744073709551615 ≤ y.metadata.frame.faults = rose in
       let later = stays.later in
       let k : min (total F v.cells + 1) 18446744073709551615 ≤ total F (set v.cells r y) = omega (arith, t, a, e, h, later) in
       subst P is k
 
-  pub seen_steady : IsTrue (all_steady u.cells) → IsTrue x.note.frame.steady
+  pub seen_steady : IsTrue (all_steady u.cells) → IsTrue x.metadata.frame.steady
   seen_steady h =
       let P : CoreView → Type 0 = λ c. IsTrue (all_steady c.cells) in
-      let Q : CellView → Type 0 = λ c. IsTrue c.note.frame.steady in
+      let Q : CellView → Type 0 = λ c. IsTrue c.metadata.frame.steady in
       subst Q x_is (one_steady v r y within frame (subst P (sym is) h))
 
 -- where all frames tell, this one does
-x_tells : (v : CoreView) (x : CellView) (r : ℕ) → r < length v.cells → x ≡ get_or v.cells r x → IsTrue (all_tell v.cells) → IsTrue x.note.frame.tells
-x_tells v x r within at all = elim (cases_Bool (view_at v.cells r).note.frame.tells) [
-  | inl t ↦ (let Q : CellView → Type 0 = λ c. IsTrue c.note.frame.tells in subst Q (read_is v.cells r x (new_cell no_frame 0 []) at within) t)
-  | inr f ↦ absurd (false≢true (sym (list_all_at (λ (c : CellView). c.note.frame.tells) v.cells r (new_cell no_frame 0 []) within f) ∙ all))
+x_tells : (v : CoreView) (x : CellView) (r : ℕ) → r < length v.cells → x ≡ get_or v.cells r x → IsTrue (all_tell v.cells) → IsTrue x.metadata.frame.tells
+x_tells v x r within at all = elim (cases_Bool (view_at v.cells r).metadata.frame.tells) [
+  | inl t ↦ (let Q : CellView → Type 0 = λ c. IsTrue c.metadata.frame.tells in subst Q (read_is v.cells r x (new_cell no_frame 0 []) at within) t)
+  | inr f ↦ absurd (false≢true (sym (list_all_at (λ (c : CellView). c.metadata.frame.tells) v.cells r (new_cell no_frame 0 []) within f) ∙ all))
 ]
 
 -- ---- what a copy answers
@@ -105,12 +105,12 @@ ready_only taken.Failed w f n = absurd (f refl)
 ready_only taken.FrameFault w f n = absurd (n refl)
 
 taken_is : (t : Tracker) (k : Ticket) (result : Taken) → ((result ≡ taken.Waiting) ↔ (status k t ≡ status_of.Waiting)) → ((result ≡ taken.Failed) ↔ (status k t ≡ status_of.Failed))
-    → ¬ (status k t ≡ status_of.Open) → ¬ (result ≡ taken.FrameFault) → result ≡ taken_of (letters_in k.start k.end t.letters)
-taken_is t k result w f settled n = elim (cases_Bool (list_all is_present (letters_in k.start k.end t.letters))) [
+    → ¬ (status k t ≡ status_of.Open) → ¬ (result ≡ taken.FrameFault) → result ≡ taken_of (byte_states_in k.start k.end t.byte_states)
+taken_is t k result w f settled n = elim (cases_Bool (list_all is_present (byte_states_in k.start k.end t.byte_states))) [
   | inl all ↦
       let ready : status k t ≡ status_of.Ready = rw all refl in
       rw all (ready_only result (λ e. let g = w.0 e in not_waiting (sym ready ∙ g)) (λ e. let g = f.0 e in not_failed (sym ready ∙ g)) n)
-  | inr some ↦ elim (cases_Bool (list_any is_absent (letters_in k.start k.end t.letters))) [
+  | inr some ↦ elim (cases_Bool (list_any is_absent (byte_states_in k.start k.end t.byte_states))) [
     | inr none ↦ let waits : status k t ≡ status_of.Waiting = rw (some, none) refl in rw (some, none) (w.1 waits)
     | inl any ↦ elim (cases_Bool k.failed) [
       | inl marked ↦ let fails : status k t ≡ status_of.Failed = rw (some, any, marked) refl in rw (some, any) (f.1 fails)
@@ -128,9 +128,9 @@ taken_is t k result w f settled n = elim (cases_Bool (list_all is_present (lette
 module _ {tells : Bool} {files : ℕ → ℕ → List ℕ} (v u : CoreView) (is : v ≡ u) (kept : IsKept tells files v) (a : ℕ) (o : Option Hold) (h : Hold)
     (read : o ≡ get_or v.holds a o) (some : o ≡ Some h) (actor_u : a < length u.holds) (x : CellView) (at : x ≡ get_or v.cells h.region x) where
   abbrev t : Tracker
-  t = x.note.region.tracker
+  t = x.metadata.region.tracker
 
-  here : (cell_at (state_of v) h.region).region ≡ x.note.region
+  here : (cell_at (state_of v) h.region).region ≡ x.metadata.region
   here = ap (λ (c : Cell). c.region) (cell_here v u is kept a o h read some actor_u x at)
 
   now_held : hold_at (state_of u) a ≡ Some h
@@ -143,10 +143,10 @@ module _ {tells : Bool} {files : ℕ → ℕ → List ℕ} (v u : CoreView) (is 
       let P : Region → Type 0 = λ c. ticket_of h.ticket c.tracker ≡ Some f.1.0 in
       (f.1.0, subst P here f.1.1, f.1.3, f.1.4)
 
-  pub copy_len : (n : ℕ) → n ≡ (told_hold (hold_at (state_of u) a)).sub.end - (told_hold (hold_at (state_of u) a)).sub.start → IfSome (ticket_of h.ticket t) (λ k. n ≡ k.end - k.start)
+  pub copy_len : (n : ℕ) → n ≡ (hold_view (hold_at (state_of u) a)).sub.end - (hold_view (hold_at (state_of u) a)).sub.start → IfSome (ticket_of h.ticket t) (λ k. n ≡ k.end - k.start)
   copy_len n e =
       let k = ticket_is in
-      let T : Told → Type 0 = λ d. n ≡ d.sub.end - d.sub.start in
+      let T : HoldView → Type 0 = λ d. n ≡ d.sub.end - d.sub.start in
       let l = subst T (told_is v u is kept a o h read some actor_u) e in
       rw k.1 (rw (k.2, k.3) l)
 
@@ -157,11 +157,11 @@ module _ {tells : Bool} {files : ℕ → ℕ → List ℕ} (v u : CoreView) (is 
       let k = ticket_is in
       let P : CoreView → Type 0 = λ c. result ≡ machine.take_bytes (Some h) (state_of c) in
       rw now_held (subst P is (taken_is t k.0 result (rw k.1 at w) (rw k.1 at f) (settled h.ticket k.0 k.1) n
-      ∙ ap (λ (c : Region). taken_of (letters_in k.0.start k.0.end c.tracker.letters)) (sym here)
+      ∙ ap (λ (c : Region). taken_of (byte_states_in k.0.start k.0.end c.tracker.byte_states)) (sym here)
       ∙ rw (k.2, k.3) refl))
 
   -- the bytes copied are the cell's, and the content's
-  pub copy_bytes : (out : List ℕ) → IsTrue (all_tell u.cells) → (IsTrue x.note.frame.tells → IfSome (ticket_of h.ticket t) (λ k. out ≡ slice_of x.bytes k.start (k.end - k.start)))
+  pub copy_bytes : (out : List ℕ) → IsTrue (all_tell u.cells) → (IsTrue x.metadata.frame.tells → IfSome (ticket_of h.ticket t) (λ k. out ≡ slice_of x.bytes k.start (k.end - k.start)))
       → out ≡ machine.wanted (hold_at (state_of u) a) (state_of u)
   copy_bytes out told copied =
       let k = ticket_is in
@@ -172,16 +172,16 @@ module _ {tells : Bool} {files : ℕ → ℕ → List ℕ} (v u : CoreView) (is 
       rw now_held (subst P is (rw b (rw (k.1, k.2, k.3) at c)))
 
   pub copy_content : (out : List ℕ) → IsTrue tells → IsTrue (all_tell u.cells)
-      → (IsTrue x.note.frame.tells → IfSome (ticket_of h.ticket t) (λ k. out ≡ slice_of (region_bytes files x.note.frame.size x.note.region.tag) k.start (k.end - k.start)))
-      → out ≡ slice_of (region_bytes files u.config.region (told_hold (hold_at (state_of u) a)).tag) (told_hold (hold_at (state_of u) a)).sub.start ((told_hold (hold_at (state_of u) a)).sub.end - (told_hold (hold_at (state_of u) a)).sub.start)
+      → (IsTrue x.metadata.frame.tells → IfSome (ticket_of h.ticket t) (λ k. out ≡ slice_of (region_bytes files x.metadata.frame.size x.metadata.region.tag) k.start (k.end - k.start)))
+      → out ≡ slice_of (region_bytes files u.config.region (hold_view (hold_at (state_of u) a)).tag) (hold_view (hold_at (state_of u) a)).sub.start ((hold_view (hold_at (state_of u) a)).sub.end - (hold_view (hold_at (state_of u) a)).sub.start)
   copy_content out archive told copied =
       let k = ticket_is in
       let all : IsTrue (all_tell v.cells) = (let P : CoreView → Type 0 = λ c. IsTrue (all_tell c.cells) in subst P (sym is) told) in
       let within = inside v u is kept a o h read some actor_u in
       let c = copied (x_tells v x h.region within at all) in
-      let e : x.note.frame.size ≡ v.config.region = (let P : CellView → Type 0 = λ q. q.note.frame.size ≡ v.config.region in subst P (read_is v.cells h.region x (new_cell no_frame 0 []) at within) (kept.sized h.region within).1) in
-      let g : x.note.region.tag ≡ h.tag = sym (ap (λ (q : Region). q.tag) here) ∙ (fits v u is kept a o h read some actor_u).tag in
-      let T : Told → Type 0 = λ d. out ≡ slice_of (region_bytes files u.config.region d.tag) d.sub.start (d.sub.end - d.sub.start) in
+      let e : x.metadata.frame.size ≡ v.config.region = (let P : CellView → Type 0 = λ q. q.metadata.frame.size ≡ v.config.region in subst P (read_is v.cells h.region x (new_cell no_frame 0 []) at within) (kept.sized h.region within).1) in
+      let g : x.metadata.region.tag ≡ h.tag = sym (ap (λ (q : Region). q.tag) here) ∙ (fits v u is kept a o h read some actor_u).tag in
+      let T : HoldView → Type 0 = λ d. out ≡ slice_of (region_bytes files u.config.region d.tag) d.sub.start (d.sub.end - d.sub.start) in
       let P : CoreView → Type 0 = λ q. out ≡ slice_of (region_bytes files q.config.region h.tag) h.sub.start (h.sub.end - h.sub.start) in
       subst T (sym (told_is v u is kept a o h read some actor_u)) (subst P is (rw (k.1, k.2, k.3, e, g) at c))
 
@@ -198,38 +198,38 @@ module _ {tells : Bool} {files : ℕ → ℕ → List ℕ} (v u : CoreView) (is 
   cell_x : cell_at (state_of v) r ≡ cell_of (all_tell v.cells) x
   cell_x = cell_is v r within ∙ ap (λ (c : CellView). cell_of (all_tell v.cells) c) (read_is v.cells r x (new_cell no_frame 0 []) at within)
 
-  pub glance_one : IsWant u.config want → want.sub.start / x.note.range ≡ (want.sub.end - 1) / x.note.range
+  pub glance_one : IsWant u.config want → want.sub.start / x.metadata.range ≡ (want.sub.end - 1) / x.metadata.range
   glance_one w =
       let P : CoreView → Type 0 = λ q. IsWant q.config want in
-      let Q : CellView → Type 0 = λ q. q.note.range ≡ v.config.range in
+      let Q : CellView → Type 0 = λ q. q.metadata.range ≡ v.config.range in
       let e = subst Q (read_is v.cells r x (new_cell no_frame 0 []) at within) (kept.sized r within).0 in
       rw e (subst P (sym is) w).sub.2
 
-  pub glance_answer : (result : Glance) → result ≡ look_at want x.note.region → result ≡ machine.look r want (state_of u)
+  pub glance_answer : (result : Glance) → result ≡ look_at want x.metadata.region → result ≡ machine.look r want (state_of u)
   glance_answer result e = let P : CoreView → Type 0 = λ q. result ≡ machine.look r want (state_of q) in subst P is (e ∙ ap (λ (c : Cell). look_at want c.region) (sym cell_x))
 
-  pub glance_bytes : (out : List ℕ) → IsTrue (all_tell u.cells) → (IsTrue x.note.frame.tells → out ≡ slice_of x.bytes want.sub.start (want.sub.end - want.sub.start)) → out ≡ machine.bytes_in r want.sub (state_of u)
+  pub glance_bytes : (out : List ℕ) → IsTrue (all_tell u.cells) → (IsTrue x.metadata.frame.tells → out ≡ slice_of x.bytes want.sub.start (want.sub.end - want.sub.start)) → out ≡ machine.bytes_in r want.sub (state_of u)
   glance_bytes out told copied =
       let all : IsTrue (all_tell v.cells) = (let P : CoreView → Type 0 = λ c. IsTrue (all_tell c.cells) in subst P (sym is) told) in
       let b : (cell_at (state_of v) r).bytes ≡ x.bytes = ap (λ (c : Cell). c.bytes) cell_x ∙ rw all refl in
       let P : CoreView → Type 0 = λ q. out ≡ machine.bytes_in r want.sub (state_of q) in
       subst P is (copied (x_tells v x r within at all) ∙ ap (λ (l : List ℕ). slice_of l want.sub.start (want.sub.end - want.sub.start)) (sym b))
 
-  same_tag : look_at want x.note.region ≡ glance.Copied → x.note.region.tag ≡ tag_of want.key
-  same_tag e = elim (cases_Bool (x.note.region.tag == tag_of want.key)) [
-    | inl t ↦ is_same x.note.region.tag (tag_of want.key) t
+  same_tag : look_at want x.metadata.region ≡ glance.Copied → x.metadata.region.tag ≡ tag_of want.key
+  same_tag e = elim (cases_Bool (x.metadata.region.tag == tag_of want.key)) [
+    | inl t ↦ is_same x.metadata.region.tag (tag_of want.key) t
     | inr f ↦ absurd (moved_copied (rw f at e))
   ]
     where
       moved_copied : {w : ℕ} → glance.Moved w ≡ glance.Copied → ⊥
       moved_copied e = cc
 
-  pub glance_content : (out : List ℕ) (result : Glance) → result ≡ look_at want x.note.region → result ≡ glance.Copied → IsTrue (all_tell u.cells)
-      → (IsTrue x.note.frame.tells → out ≡ slice_of (region_bytes files x.note.frame.size x.note.region.tag) want.sub.start (want.sub.end - want.sub.start))
+  pub glance_content : (out : List ℕ) (result : Glance) → result ≡ look_at want x.metadata.region → result ≡ glance.Copied → IsTrue (all_tell u.cells)
+      → (IsTrue x.metadata.frame.tells → out ≡ slice_of (region_bytes files x.metadata.frame.size x.metadata.region.tag) want.sub.start (want.sub.end - want.sub.start))
       → out ≡ slice_of (region_bytes files u.config.region (tag_of want.key)) want.sub.start (want.sub.end - want.sub.start)
   glance_content out result e g told copied =
       let all : IsTrue (all_tell v.cells) = (let P : CoreView → Type 0 = λ c. IsTrue (all_tell c.cells) in subst P (sym is) told) in
-      let Q : CellView → Type 0 = λ q. q.note.frame.size ≡ v.config.region in
+      let Q : CellView → Type 0 = λ q. q.metadata.frame.size ≡ v.config.region in
       let size = subst Q (read_is v.cells r x (new_cell no_frame 0 []) at within) (kept.sized r within).1 in
       let tag = same_tag (sym e ∙ g) in
       let P : CoreView → Type 0 = λ q. out ≡ slice_of (region_bytes files q.config.region (tag_of want.key)) want.sub.start (want.sub.end - want.sub.start) in

@@ -57,10 +57,10 @@ right : (x y : Bool) → IsTrue (x && y) → IsTrue y
 right true y t = t
 right false y t = absurd (false≢true t)
 
-tell_at : (r : ℕ) (vs : List CellView) → r < length vs → IsTrue (all_tell vs) → IsTrue (view_at vs r).note.frame.tells
+tell_at : (r : ℕ) (vs : List CellView) → r < length vs → IsTrue (all_tell vs) → IsTrue (view_at vs r).metadata.frame.tells
 tell_at r [] h t = absurd (omega (arith, h))
-tell_at zero (v ∷ vs) h t = left v.note.frame.tells (all_tell vs) t
-tell_at (suc r) (v ∷ vs) h t = tell_at r vs (omega (arith, h)) (right v.note.frame.tells (all_tell vs) t)
+tell_at zero (v ∷ vs) h t = left v.metadata.frame.tells (all_tell vs) t
+tell_at (suc r) (v ∷ vs) h t = tell_at r vs (omega (arith, h)) (right v.metadata.frame.tells (all_tell vs) t)
 
 module _ {X : Type 0} (faults size : X → ℕ) (tells steady : X → Bool) (bytes : X → List ℕ) where
   abbrev pub cell_over : ℕ → X → CellView
@@ -103,17 +103,17 @@ module _ {X : Type 0} (faults size : X → ℕ) (tells steady : X → Bool) (byt
       ∙ ap (λ (l : List Cell). S n (list_all tells fs) l) (over_cells c (list_all tells fs) fs h)
 
   over_sized : (c : Config) (r : ℕ) (fs : List X) → All (λ f. size f ≡ c.region) fs → r < length (map (cell_over c.range) fs)
-      → ((view_at (map (cell_over c.range) fs) r).note.range ≡ c.range) × ((view_at (map (cell_over c.range) fs) r).note.frame.size ≡ c.region)
+      → ((view_at (map (cell_over c.range) fs) r).metadata.range ≡ c.range) × ((view_at (map (cell_over c.range) fs) r).metadata.frame.size ≡ c.region)
   over_sized c r [] h l = absurd (omega (arith, l))
   over_sized c zero (f ∷ fs) h l = (refl, h 0 f (omega arith))
   over_sized c (suc r) (f ∷ fs) h l = over_sized c r fs (λ k d m. h (suc k) d (omega (arith, m))) (omega (arith, l))
 
-  over_tickets : (range r : ℕ) (fs : List X) → (view_at (map (cell_over range) fs) r).note.region.tracker.tickets ≡ []
+  over_tickets : (range r : ℕ) (fs : List X) → (view_at (map (cell_over range) fs) r).metadata.region.tracker.tickets ≡ []
   over_tickets range r [] = refl
   over_tickets range zero (f ∷ fs) = refl
   over_tickets range (suc r) (f ∷ fs) = over_tickets range r fs
 
-  over_gaps : (range r : ℕ) (fs : List X) → (view_at (map (cell_over range) fs) r).note.region.tracker.gaps ≡ []
+  over_gaps : (range r : ℕ) (fs : List X) → (view_at (map (cell_over range) fs) r).metadata.region.tracker.gaps ≡ []
   over_gaps range r [] = refl
   over_gaps range zero (f ∷ fs) = refl
   over_gaps range (suc r) (f ∷ fs) = over_gaps range r fs

@@ -6,7 +6,7 @@ use Rattle.std.proofs.lemmas.Bool.{cases_eq, cases_Bool, cases_lt}
 use Rattle.std.proofs.lemmas.Bool.Decides.{nat_tests}
 use Rattle.std.proofs.lemmas.List.{get_or-set_other, length-set}
 use Rattle.sparse_tracker.specs.declared.gaps.OpenGap.{OpenGap}
-use Rattle.sparse_tracker.specs.Letters.{gap_of}
+use Rattle.sparse_tracker.specs.ByteStates.{gap_of}
 use Rattle.sparse_tracker.specs.Weights.{total, by_gap}
 use Rattle.cache_door.specs.declared.hold.Hold.{Hold}
 use Rattle.cache_door.specs.Machine.{State, cell_at, hold_at}

@@ -4,7 +4,7 @@ use Rattle.std.specs.Prelude.{◌==◌, slice_get}
 use Rattle.std.proofs.lemmas.Bool.{cases_eq, cases_Bool, cases_lt}
 use Rattle.std.proofs.lemmas.List.{get_or-set_same, get_or-set_other, length-set}
 use Rattle.region_ranges.specs.Keys.{tag_of}
-use Rattle.sparse_tracker.specs.Letters.{present}
+use Rattle.sparse_tracker.specs.ByteStates.{present}
 use Rattle.sparse_tracker.specs.Places.{PresentStays}
 use Rattle.freq_lists.specs.Lists.{head}
 use Rattle.cache_policy.specs.Policy.{PolicyView, find, tag_at}
@@ -20,7 +20,7 @@ use Rattle.cache_door.specs.Laws.{PresentKept}
 use Rattle.cache_door.proofs.Places.{past}
 
 abbrev HasPresent : ℕ → Cell → Type 0
-HasPresent i c = slice_get c.region.tracker.letters i ≡ Some present
+HasPresent i c = slice_get c.region.tracker.byte_states i ≡ Some present
 
 some_none : {X : Type 0} {x : X} → None ≡ Some x → ⊥
 some_none e = cc
@@ -116,5 +116,5 @@ present_kept stays s t a r tag i e answer (inl step) m n h =
     let P : State → Type 0 = λ x. tag_at x.policy r ≡ Some tag → HasPresent i (cell_at x r) in
     subst P (ap (λ (x : Answer × State). x.1) step) (event_present stays a r tag i e s m h) n
 present_kept stays s t a r tag i e answer (inr refused) m n h =
-    let P : cells.Region → Type 0 = λ c. slice_get c.tracker.letters i ≡ Some present in
+    let P : cells.Region → Type 0 = λ c. slice_get c.tracker.byte_states i ≡ Some present in
     subst P (sym (refused.1.regions r)) h

@@ -6,7 +6,7 @@ use Rattle.std.specs.Prelude.{◌==◌, ◌⊎◌, IsTrue, IsSome, IfSome, slice
 use Rattle.std.proofs.lemmas.Bool.{cases_eq, cases_lt}
 use Rattle.std.proofs.lemmas.List.{get_or-set_same, get_or-set_other, length-set}
 use Rattle.sparse_tracker.specs.declared.gaps.OpenGap.{OpenGap}
-use Rattle.sparse_tracker.specs.Letters.{pending, present, gap_of}
+use Rattle.sparse_tracker.specs.ByteStates.{pending, present, gap_of}
 use Rattle.sparse_tracker.specs.Weights.{TicketWeights, GapWeights}
 use Rattle.sparse_tracker.specs.Weights.{total}
 use Rattle.cache_outside.specs.Causes.{Rose}
@@ -14,13 +14,13 @@ use Rattle.cache_outside.specs.Frames.{put_at, SameOutside}
 use Rattle.cache_door.proofs.Weighs.{total-set, total-at}
 use Rattle.blob_parts.specs.Pieces.{PieceView}
 use Rattle.region_cell.specs.Cells as cells
-use Rattle.region_cell.specs.Cells.{CellView, FrameNote, FrameStays, Region, with_region, with_frame, new_cell}
+use Rattle.region_cell.specs.Cells.{CellView, FrameMetadata, FrameStays, Region, with_region, with_frame, new_cell}
 use Rattle.cache_door.specs.declared.hold.Hold.{Hold}
 use Rattle.cache_door.specs.declared.work.Work.{Work}
 use Rattle.cache_door.specs.Machine as machine
 use Rattle.cache_door.specs.Machine.{State, Cell, cell_at, hold_at, with_hold, with_cell, no_cell, SamePresent}
 use Rattle.cache_door.specs.Good.{HoldFits}
-use Rattle.cache_door.specs.Doors.{Told, told_hold, FitsGap}
+use Rattle.cache_door.specs.Doors.{HoldView, hold_view, FitsGap}
 use Rattle.cache_door.specs.Cores.{CoreView, view_at, all_tell, all_steady, all_faults, cell_of, state_of, no_frame, IsKept, Later}
 use Rattle.cache_door.proofs.Keeps.{Changes}
 use Rattle.cache_door.proofs.Calls.{store_changes}
@@ -56,7 +56,7 @@ outside_get start n i b c same (inr g) =
 
 module _ {tells : Bool} {files : ℕ → ℕ → List ℕ} (v u : CoreView) (is : v ≡ u) (kept : IsKept tells files v) (a : ℕ) (o : Option Hold) (h : Hold)
     (read : o ≡ get_or v.holds a o) (some : o ≡ Some h) (actor_u : a < length u.holds) (x : CellView) (at : x ≡ get_or v.cells h.region x)
-    (piece : PieceView) (asked : FitsGap u.config.region (told_hold (hold_at (state_of u) a)) piece) where
+    (piece : PieceView) (asked : FitsGap u.config.region (hold_view (hold_at (state_of u) a)) piece) where
   abbrev s : State
   s = state_of v
 
@@ -66,10 +66,10 @@ module _ {tells : Bool} {files : ℕ → ℕ → List ℕ} (v u : CoreView) (is 
   x_is : view_at v.cells h.region ≡ x
   x_is = read_is v.cells h.region x (new_cell no_frame 0 []) at within
 
-  fit : FitsGap v.config.region (told_hold (Some h)) piece
+  fit : FitsGap v.config.region (hold_view (Some h)) piece
   fit =
-      let P : CoreView → Type 0 = λ q. FitsGap q.config.region (told_hold (hold_at (state_of u) a)) piece in
-      let T : Told → Type 0 = λ t. FitsGap v.config.region t piece in
+      let P : CoreView → Type 0 = λ q. FitsGap q.config.region (hold_view (hold_at (state_of u) a)) piece in
+      let T : HoldView → Type 0 = λ t. FitsGap v.config.region t piece in
       subst T (told_is v u is kept a o h read some actor_u) (subst P (sym is) asked)
 
   pub opened : h.gap.upto < h.gap.end
@@ -78,33 +78,33 @@ module _ {tells : Bool} {files : ℕ → ℕ → List ℕ} (v u : CoreView) (is 
   pub ends : h.gap.upto + length piece.bytes ≤ h.gap.end
   ends = fit.inside
 
-  gap_is : gap_of h.gap.id x.note.region.tracker ≡ Some h.gap
+  gap_is : gap_of h.gap.id x.metadata.region.tracker ≡ Some h.gap
   gap_is = gap_here v u is kept a o h read some actor_u x at opened
 
-  pub store_gap : IsSome (gap_of h.gap.id x.note.region.tracker)
+  pub store_gap : IsSome (gap_of h.gap.id x.metadata.region.tracker)
   store_gap = rw gap_is refl
 
-  size_is : x.note.frame.size ≡ v.config.region
-  size_is = let P : CellView → Type 0 = λ q. q.note.frame.size ≡ v.config.region in subst P x_is (kept.sized h.region within).1
+  size_is : x.metadata.frame.size ≡ v.config.region
+  size_is = let P : CellView → Type 0 = λ q. q.metadata.frame.size ≡ v.config.region in subst P x_is (kept.sized h.region within).1
 
-  tag_is : x.note.region.tag ≡ h.tag
+  tag_is : x.metadata.region.tag ≡ h.tag
   tag_is = sym (ap (λ (q : Region). q.tag) (tracker_here v u is kept a o h read some actor_u x at)) ∙ (fits v u is kept a o h read some actor_u).tag
 
-  pub store_piece : IfSome (gap_of h.gap.id x.note.region.tracker) (λ g. cells.FitsGap x.note.frame.size x.note.region.tag g piece)
+  pub store_piece : IfSome (gap_of h.gap.id x.metadata.region.tracker) (λ g. cells.FitsGap x.metadata.frame.size x.metadata.region.tag g piece)
   store_piece = rw (gap_is, size_is, tag_is) (record { manifest = fit.manifest; file = fit.file; at = fit.at; inside = fit.inside })
 
   -- ---- where the store was taken
-  module _ (y : CellView) (rest : y ≡ record (with_frame y.note.frame (with_region y.note.region x)) { bytes = y.bytes }) (stays : FrameStays x.note.frame y.note.frame) where
-    abbrev frame : FrameStays (view_at v.cells h.region).note.frame y.note.frame
-    frame = let P : CellView → Type 0 = λ q. FrameStays q.note.frame y.note.frame in subst P (sym x_is) stays
+  module _ (y : CellView) (rest : y ≡ record (with_frame y.metadata.frame (with_region y.metadata.region x)) { bytes = y.bytes }) (stays : FrameStays x.metadata.frame y.metadata.frame) where
+    abbrev frame : FrameStays (view_at v.cells h.region).metadata.frame y.metadata.frame
+    frame = let P : CellView → Type 0 = λ q. FrameStays q.metadata.frame y.metadata.frame in subst P (sym x_is) stays
 
-    range_same : y.note.range ≡ (view_at v.cells h.region).note.range
-    range_same = ap (λ (c : CellView). c.note.range) rest ∙ sym (ap (λ (c : CellView). c.note.range) x_is)
+    range_same : y.metadata.range ≡ (view_at v.cells h.region).metadata.range
+    range_same = ap (λ (c : CellView). c.metadata.range) rest ∙ sym (ap (λ (c : CellView). c.metadata.range) x_is)
 
-    told_x : IsTrue (all_tell v.cells) → IsTrue x.note.frame.tells
+    told_x : IsTrue (all_tell v.cells) → IsTrue x.metadata.frame.tells
     told_x all = sym stays.tells ∙ one_tells v h.region y kept within frame range_same all
 
-    region_s : (cell_at s h.region).region ≡ x.note.region
+    region_s : (cell_at s h.region).region ≡ x.metadata.region
     region_s = tracker_here v u is kept a o h read some actor_u x at
 
     bytes_s : IsTrue (all_tell v.cells) → (cell_at s h.region).bytes ≡ x.bytes
@@ -114,22 +114,22 @@ module _ {tells : Bool} {files : ℕ → ℕ → List ℕ} (v u : CoreView) (is 
     no_bytes n = ap (λ (c : Cell). c.bytes) (cell_here v u is kept a o h read some actor_u x at) ∙ rw n refl
 
     -- a fault of the one frame is one of all
-    pub store_fault : Rose x.note.frame.faults y.note.frame.faults → Rose (all_faults u.cells) (all_faults (set v.cells h.region y))
+    pub store_fault : Rose x.metadata.frame.faults y.metadata.frame.faults → Rose (all_faults u.cells) (all_faults (set v.cells h.region y))
     store_fault rose =
-        let F : CellView → ℕ = λ c. c.note.frame.faults in
+        let F : CellView → ℕ = λ c. c.metadata.frame.faults in
         let P : CoreView → Type 0 = λ c. Rose (all_faults c.cells) (all_faults (set v.cells h.region y)) in
         let t = total-set F v.cells h.region y (new_cell no_frame 0 []) within in
         let b = total-at F v.cells h.region (new_cell no_frame 0 []) within in
         let e = ap F x_is in
-        let r : min (x.note.frame.faults + 1) 18446744073709551615 ≤ y.note.frame.faults = rose in
+        let r : min (x.metadata.frame.faults + 1) 18446744073709551615 ≤ y.metadata.frame.faults = rose in
         let later = stays.later in
         let k : min (total F v.cells + 1) 18446744073709551615 ≤ total F (set v.cells h.region y) = omega (arith, t, b, e, r, later) in
         subst P is k
 
-    pub store_steady : IsTrue (all_steady u.cells) → IsTrue x.note.frame.steady
+    pub store_steady : IsTrue (all_steady u.cells) → IsTrue x.metadata.frame.steady
     store_steady all =
         let P : CoreView → Type 0 = λ c. IsTrue (all_steady c.cells) in
-        let Q : CellView → Type 0 = λ c. IsTrue c.note.frame.steady in
+        let Q : CellView → Type 0 = λ c. IsTrue c.metadata.frame.steady in
         subst Q x_is (one_steady v h.region y within frame (subst P (sym is) all))
 
     abbrev to : ℕ
@@ -138,9 +138,9 @@ module _ {tells : Bool} {files : ℕ → ℕ → List ℕ} (v u : CoreView) (is 
     abbrev moved : Hold
     moved = record h { gap = record h.gap { upto = to } }
 
-    module _ (ok : IfSome (gap_of h.gap.id x.note.region.tracker) (λ g. y.note.region ≡ cells.progress h.gap.id (g.upto + length piece.bytes) x.note.region))
-        (put : IsTrue x.note.frame.tells → IfSome (gap_of h.gap.id x.note.region.tracker) (λ g. y.bytes ≡ put_at g.upto piece.bytes x.bytes)) where
-      progressed : y.note.region ≡ cells.progress h.gap.id to (cell_at s h.region).region
+    module _ (ok : IfSome (gap_of h.gap.id x.metadata.region.tracker) (λ g. y.metadata.region ≡ cells.progress h.gap.id (g.upto + length piece.bytes) x.metadata.region))
+        (put : IsTrue x.metadata.frame.tells → IfSome (gap_of h.gap.id x.metadata.region.tracker) (λ g. y.bytes ≡ put_at g.upto piece.bytes x.bytes)) where
+      progressed : y.metadata.region ≡ cells.progress h.gap.id to (cell_at s h.region).region
       progressed = (rw gap_is at ok) ∙ ap (λ (q : Region). cells.progress h.gap.id to q) (sym region_s)
 
       put_is : IsTrue (all_tell v.cells) → y.bytes ≡ put_at h.gap.upto piece.bytes (cell_at s h.region).bytes
@@ -170,7 +170,7 @@ module _ {tells : Bool} {files : ℕ → ℕ → List ℕ} (v u : CoreView) (is 
           )
 
     -- ---- where the frame faulted
-    module _ (stood : y.note.region ≡ x.note.region) (outside : IsTrue x.note.frame.tells → IfSome (gap_of h.gap.id x.note.region.tracker) (λ g. SameOutside g.upto (length piece.bytes) x.bytes y.bytes)) where
+    module _ (stood : y.metadata.region ≡ x.metadata.region) (outside : IsTrue x.metadata.frame.tells → IfSome (gap_of h.gap.id x.metadata.region.tracker) (λ g. SameOutside g.upto (length piece.bytes) x.bytes y.bytes)) where
       region_y : (cell_of (all_tell v.cells) y).region ≡ (cell_at s h.region).region
       region_y = stood ∙ sym region_s
 
@@ -204,7 +204,7 @@ module _ {tells : Bool} {files : ℕ → ℕ → List ℕ} (v u : CoreView) (is 
           subst P holds_same (cell_kept v h.region y kept within frame range_same a (Some h) w (unchanged good))
 
       -- a present byte is not among those that were to be put
-      apart : (i : ℕ) → slice_get (cell_at s h.region).region.tracker.letters i ≡ Some present → (i < h.gap.upto) ⊎ (h.gap.upto + length piece.bytes ≤ i)
+      apart : (i : ℕ) → slice_get (cell_at s h.region).region.tracker.byte_states i ≡ Some present → (i < h.gap.upto) ⊎ (h.gap.upto + length piece.bytes ≤ i)
       apart i e = elim (cases_lt i h.gap.upto) [
         | inl l ↦ inl l
         | inr g ↦ elim (cases_lt i h.gap.end) [
@@ -214,15 +214,15 @@ module _ {tells : Bool} {files : ℕ → ℕ → List ℕ} (v u : CoreView) (is 
               let d = found_gap s a h kept.good (held v u is kept a o h read some actor_u) opened in
               let p : OpenGap → Bool = λ q. q.id == h.gap.id in
               let j = find_at p (cell_at s h.region).region.tracker.gaps in
-              let k = c.tracker.gaps.letters (position_or_len p (cell_at s h.region).region.tracker.gaps) h.gap i (sym j ∙ d) g l in
-              absurd (two_letters (sym e ∙ k))
+              let k = c.tracker.gaps.byte_states (position_or_len p (cell_at s h.region).region.tracker.gaps) h.gap i (sym j ∙ d) g l in
+              absurd (two_byte_states (sym e ∙ k))
         ]
       ]
         where
-          two_letters : Some present ≡ Some (pending h.gap.id) → ⊥
-          two_letters e = cc
+          two_byte_states : Some present ≡ Some (pending h.gap.id) → ⊥
+          two_byte_states e = cc
 
-      bytes_stand : (i : ℕ) → slice_get (cell_at s h.region).region.tracker.letters i ≡ Some present → slice_get (cell_of (all_tell v.cells) y).bytes i ≡ slice_get (cell_at s h.region).bytes i
+      bytes_stand : (i : ℕ) → slice_get (cell_at s h.region).region.tracker.byte_states i ≡ Some present → slice_get (cell_of (all_tell v.cells) y).bytes i ≡ slice_get (cell_at s h.region).bytes i
       bytes_stand i e = stand_or_none (all_tell v.cells) i y.bytes (cell_at s h.region).bytes
           (λ t. outside_get h.gap.upto (length piece.bytes) i x.bytes y.bytes (rw gap_is at (outside (told_x t))) (apart i e) ∙ ap (λ (l : List ℕ). slice_get l i) (sym (bytes_s t)))
           no_bytes
@@ -247,7 +247,7 @@ module _ {tells : Bool} {files : ℕ → ℕ → List ℕ} (v u : CoreView) (is 
         ];
         bytes = λ k i l. elim (cases_eq h.region k) [
           | inl e ↦
-              let P : ℕ → Type 0 = λ j. slice_get (cell_at s j).region.tracker.letters i ≡ Some present → slice_get (cell_at (with_cell h.region (cell_of (all_tell v.cells) y) s) j).bytes i ≡ slice_get (cell_at s j).bytes i in
+              let P : ℕ → Type 0 = λ j. slice_get (cell_at s j).region.tracker.byte_states i ≡ Some present → slice_get (cell_at (with_cell h.region (cell_of (all_tell v.cells) y) s) j).bytes i ≡ slice_get (cell_at s j).bytes i in
               subst P e (λ m. ap (λ (c : Cell). slice_get c.bytes i) here ∙ bytes_stand i m) l
           | inr n ↦ ap (λ (c : Cell). slice_get c.bytes i) (there k n)
         ];

@@ -4,7 +4,7 @@ use Rattle.std.specs.List.{list_all}
 use Rattle.region_ranges.specs.declared.keys.Config.{Config}
 use Rattle.sparse_tracker.specs.Weights.{total}
 use Rattle.cache_policy.specs.Policy.{PolicyView}
-use Rattle.region_cell.specs.Cells.{CellView, FrameNote, new_cell}
+use Rattle.region_cell.specs.Cells.{CellView, FrameMetadata, new_cell}
 use Rattle.cache_door.specs.declared.hold.Hold.{Hold}
 use Rattle.cache_door.specs.declared.work.Work.{Work}
 use Rattle.cache_door.specs.Machine.{State, Cell}
@@ -22,7 +22,7 @@ pub record CoreView : Type 0 where
 abbrev pub core_view : Config → PolicyView → List CellView → List (Option Hold) → List Bool → Work → CoreView
 core_view config policy cells holds gone work = record { config = config; policy = policy; cells = cells; holds = holds; gone = gone; work = work }
 
-abbrev pub no_frame : FrameNote
+abbrev pub no_frame : FrameMetadata
 no_frame = record { faults = 0; size = 0; tells = false; steady = false }
 
 -- the cell of region r, or one of no bytes
@@ -32,18 +32,18 @@ view_at cells r = slice_index_or cells r (new_cell no_frame 0 [])
 -- ---- the frames, all together
 
 abbrev pub all_tell : List CellView → Bool
-all_tell cells = list_all (λ (c : CellView). c.note.frame.tells) cells
+all_tell cells = list_all (λ (c : CellView). c.metadata.frame.tells) cells
 
 abbrev pub all_steady : List CellView → Bool
-all_steady cells = list_all (λ (c : CellView). c.note.frame.steady) cells
+all_steady cells = list_all (λ (c : CellView). c.metadata.frame.steady) cells
 
 abbrev pub all_faults : List CellView → ℕ
-all_faults cells = total (λ (c : CellView). c.note.frame.faults) cells
+all_faults cells = total (λ (c : CellView). c.metadata.frame.faults) cells
 
 -- ---- the state
 
 abbrev pub cell_of : Bool → CellView → Cell
-cell_of told c = record { region = c.note.region; bytes = if told then c.bytes else [] }
+cell_of told c = record { region = c.metadata.region; bytes = if told then c.bytes else [] }
 
 abbrev pub state_of : CoreView → State
 state_of v = record {
@@ -58,7 +58,7 @@ state_of v = record {
 -- a core keeps a good state, and its cells are made for its settings
 pub record IsKept (tells : Bool) (files : ℕ → ℕ → List ℕ) (v : CoreView) : Type 0 where
   pub good : Good tells files (state_of v)
-  pub sized : (r : ℕ) → r < length v.cells → ((view_at v.cells r).note.range ≡ v.config.range) × ((view_at v.cells r).note.frame.size ≡ v.config.region)
+  pub sized : (r : ℕ) → r < length v.cells → ((view_at v.cells r).metadata.range ≡ v.config.range) × ((view_at v.cells r).metadata.frame.size ≡ v.config.region)
 
 -- what no call changes, and that no count of faults fell
 pub record Later (old new : CoreView) : Type 0 where

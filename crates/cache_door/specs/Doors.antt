@@ -67,7 +67,7 @@ store_work n (Err e) = turned_away_once
 -- ---- the hold
 
 -- Where nothing is held, all else is 0. The gap is open where `upto` is below `gap_end`: `upto` is its present end.
-pub record Told : Type 0 where
+pub record HoldView : Type 0 where
   pub held : Bool
   pub region : ℕ
   pub tag : ℕ
@@ -75,12 +75,12 @@ pub record Told : Type 0 where
   pub upto : ℕ
   pub gap_end : ℕ
 
-abbrev pub nothing : Told
+abbrev pub nothing : HoldView
 nothing = record { held = false; region = 0; tag = 0; sub = record { start = 0; end = 0 }; upto = 0; gap_end = 0 }
 
-abbrev pub told_hold : Option Hold → Told
-told_hold None = nothing
-told_hold (Some h) = record { held = true; region = h.region; tag = h.tag; sub = h.sub; upto = h.gap.upto; gap_end = h.gap.end }
+abbrev pub hold_view : Option Hold → HoldView
+hold_view None = nothing
+hold_view (Some h) = record { held = true; region = h.region; tag = h.tag; sub = h.sub; upto = h.gap.upto; gap_end = h.gap.end }
 
 abbrev pub range_start : Option ByteRange → ℕ
 range_start None = 0
@@ -91,21 +91,21 @@ range_end None = 0
 range_end (Some g) = g.end
 
 -- after an entry by a door that held nothing
-abbrev pub entry_hold : {E : Type 0} → Want → Result Entered E → Told
+abbrev pub entry_hold : {E : Type 0} → Want → Result Entered E → HoldView
 entry_hold want (Ok (Held r gap)) = record { held = true; region = r; tag = tag_of want.key; sub = want.sub; upto = range_start gap; gap_end = range_end gap }
 entry_hold want (Ok NoRoom) = nothing
 entry_hold want (Ok Gone) = nothing
 entry_hold want (Err e) = nothing
 
-abbrev pub stored_hold : {E : Type 0} → ℕ → Result (Unit {0}) E → Told → Told
+abbrev pub stored_hold : {E : Type 0} → ℕ → Result (Unit {0}) E → HoldView → HoldView
 stored_hold n (Ok u) t = record t { upto = t.upto + n }
 stored_hold n (Err e) t = t
 
-abbrev pub failed_hold : Told → Told
+abbrev pub failed_hold : HoldView → HoldView
 failed_hold t = record t { upto = 0; gap_end = 0 }
 
 -- the piece is of the key's file, begins at the gap's present end, and stays in the gap
-pub record FitsGap (size : ℕ) (t : Told) (piece : PieceView) : Type 0 where
+pub record FitsGap (size : ℕ) (t : HoldView) (piece : PieceView) : Type 0 where
   pub manifest : piece.manifest ≡ manifest_of t.tag
   pub file : piece.file ≡ file_of t.tag
   pub at : piece.at ≡ part_of t.tag * size + t.upto
@@ -143,10 +143,10 @@ abbrev pub Grown : (ℕ → Bool) → (ℕ → Bool) → Type 0
 Grown old new = (m : ℕ) → old m ≡ true → new m ≡ true
 
 -- what is told of the state is that of the same cache: it is good, and its settings, hold and mounts are those that the door tells
-pub record Agrees (tells : Bool) (files : ℕ → ℕ → List ℕ) (c : Config) (t : Bool) (h : Told) (a : ℕ) (seen unmounted : ℕ → Bool) (s : State) : Type 0 where
+pub record Agrees (tells : Bool) (files : ℕ → ℕ → List ℕ) (c : Config) (t : Bool) (h : HoldView) (a : ℕ) (seen unmounted : ℕ → Bool) (s : State) : Type 0 where
   pub good : Good tells files s
   pub config : s.config ≡ c
   pub told : s.told ≡ t
   pub actor : a < length s.holds
-  pub hold : h ≡ told_hold (hold_at s a)
+  pub hold : h ≡ hold_view (hold_at s a)
   pub gone : (m : ℕ) → (seen m ≡ is_gone s m) × (unmounted m ≡ is_gone s m)

@@ -49,16 +49,16 @@ pub record Counts (s : State) : Type 0 where
 -- What is true of each cell. `tells` says whether the archive does, and `files` gives the bytes of file f of manifest m; `told` says
 -- whether the frames do.
 pub record GoodCell (tells told : Bool) (files : ℕ → ℕ → List ℕ) (config : Config) (c : Cell) : Type 0 where
-  -- gaps are apart, and the letters from a gap's present end to its end are pending under it, and no others
+  -- gaps are apart, and the states from a gap's present end to its end are pending under it, and no others
   pub tracker : tracker.IsGood c.region.tracker
-  -- in each aligned range present letters stand before absent ones or before those of one gap; a ticket's bytes lie in one aligned
+  -- in each aligned range present states stand before absent ones or before those of one gap; a ticket's bytes lie in one aligned
   -- range, and a ticket that waits for an absent byte is marked failed
   pub ranged : IsRanged config.range c.region
   -- a cell that is told has as many bytes as a region
   pub bytes : IsTrue told → length c.bytes ≡ config.region
   -- each byte that is present is the content's byte of the cell's key
   pub filled : IsTrue tells → IsTrue told → IsFilled files config.region c.region c.bytes
-  -- a cell with a key has as many letters as that region has bytes by the content
+  -- a cell with a key has as many states as that region has bytes by the content
   pub whole : IsTrue tells → IsWhole files config.region c.region
 
 pub record Good (tells : Bool) (files : ℕ → ℕ → List ℕ) (s : State) : Type 0 where

@@ -5,7 +5,7 @@ use Rattle.region_ranges.specs.declared.ranges.ByteRange.{ByteRange}
 use Rattle.region_ranges.specs.declared.keys.Config.{Config}
 use Rattle.region_ranges.specs.Keys.{free_tag, tag_of}
 use Rattle.sparse_tracker.specs.declared.gaps.OpenGap.{OpenGap}
-use Rattle.sparse_tracker.specs.Letters.{Letter, new_tracker, least_unused, numbers, ids, letters_in, is_absent, is_present, present}
+use Rattle.sparse_tracker.specs.ByteStates.{ByteState, new_tracker, least_unused, numbers, ids, byte_states_in, is_absent, is_present, present}
 use Rattle.freq_lists.specs.Lists.{head}
 use Rattle.cache_policy.specs.Policy as policy
 use Rattle.cache_policy.specs.Policy.{PolicyView, new_policy}
@@ -23,7 +23,7 @@ use Rattle.cache_door.specs.declared.answers.Glance.{Glance}
 use Rattle.cache_door.specs.declared.answers.Glance.TheVariants as glance
 use Rattle.cache_door.specs.declared.hold.Hold.{Hold}
 
--- a region's key and letters, and the bytes of its frame
+-- a region's key and states, and the bytes of its frame
 pub record Cell : Type 0 where
   pub region : Region
   pub bytes : List ℕ
@@ -139,13 +139,13 @@ enter a mount want now s = if is_gone s mount then (Gone, s) else enter_at (poli
 
 -- ---- the other calls of the actor with the hold
 
--- all letters present, else one absent, else one that somebody fetches
-abbrev pub taken_of : List Letter → Taken
+-- all states present, else one absent, else one that somebody fetches
+abbrev pub taken_of : List ByteState → Taken
 taken_of ls = if list_all is_present ls then taken.Copied else if list_any is_absent ls then taken.Failed else taken.Waiting
 
 abbrev pub take_bytes : Option Hold → State → Taken
 take_bytes None s = taken.Failed
-take_bytes (Some h) s = taken_of (letters_in h.sub.start h.sub.end (cell_at s h.region).region.tracker.letters)
+take_bytes (Some h) s = taken_of (byte_states_in h.sub.start h.sub.end (cell_at s h.region).region.tracker.byte_states)
 
 -- the bytes of a cell at a range
 abbrev pub bytes_in : ℕ → ByteRange → State → List ℕ
@@ -179,7 +179,7 @@ leave a (Some h) s = with_hold a None (with_region h.region (cells.leave h.ticke
 
 -- ---- calls without a hold
 
--- a look at a cell for a key: one of the key that has fewer letters than are wanted lacks a wanted byte too
+-- a look at a cell for a key: one of the key that has fewer states than are wanted lacks a wanted byte too
 abbrev pub look_at : Want → Region → Glance
 look_at want c =
     if c.tag == tag_of want.key
@@ -268,7 +268,7 @@ pub record SamePresent (s t : State) : Type 0 where
   pub gone : t.gone ≡ s.gone
   pub count : length t.cells ≡ length s.cells
   pub regions : (r : ℕ) → (cell_at t r).region ≡ (cell_at s r).region
-  pub bytes : (r i : ℕ) → slice_get (cell_at s r).region.tracker.letters i ≡ Some present → slice_get (cell_at t r).bytes i ≡ slice_get (cell_at s r).bytes i
+  pub bytes : (r i : ℕ) → slice_get (cell_at s r).region.tracker.byte_states i ≡ Some present → slice_get (cell_at t r).bytes i ≡ slice_get (cell_at s r).bytes i
 
 -- the machine's answer and state, or a refusal that leaves what is present
 abbrev pub Step : State → ℕ → Event → Answer → State → Type 0

@@ -13,7 +13,7 @@ ghost use Rattle.region_cell.specs.Cells.{region_bytes, len_of, with_region, ass
 ghost use Rattle.region_cell.specs.declared.taken.Taken.TheVariants as taken;
 ghost use Rattle.cache_door.specs.declared.answers.Glance.TheVariants as glance;
 ghost use Rattle.cache_door.specs.Machine.{new_state, enter, take_bytes, wanted, bytes_in, store, fail, leave, look, age, clear, unmount, hold_at, is_gone, enter_at, room_by, hold, SamePresent};
-ghost use Rattle.cache_door.specs.Doors.{Works, no_work, entry_work, take_work, glance_work, store_work, FitsGap, IsWant, HasLength, IsEntry, told_hold, failed_hold, stored_hold, nothing};
+ghost use Rattle.cache_door.specs.Doors.{Works, no_work, entry_work, take_work, glance_work, store_work, FitsGap, IsWant, HasLength, IsEntry, hold_view, failed_hold, stored_hold, nothing};
 ghost use Rattle.cache_door.specs.Cores.{state_of, view_at, all_tell, all_steady, all_faults, IsKept, Later};
 
 use crate::answers::{Entered, Glance, Want};
@@ -153,7 +153,7 @@ impl<A: Archive + Drop, F: Frame + Drop> Core<A, F> {
         now: u64,
     ) -> Result<Entered, AllocError>
         requires actor { actor < length self.old.holds }
-        requires free { told_hold (hold_at (state_of self.old) actor) ≡ nothing }
+        requires free { hold_view (hold_at (state_of self.old) actor) ≡ nothing }
         requires mount { mount < 4096 }
         requires want { IsWant self.old.config want.now }
         requires whole { IsTrue A.tells → HasLength (content A.blobs) self.old.config want.now }
@@ -269,7 +269,7 @@ impl<A: Archive + Drop, F: Frame + Drop> Core<A, F> {
     // How many bytes the region's cell has.
     fn len_at(&self, region: u32) -> u32
         requires { region < length self.now.cells }
-        ensures { result ≡ len_of (view_at self.now.cells region).note.region }
+        ensures { result ≡ len_of (view_at self.now.cells region).metadata.region }
     {
         self.cells[region as usize].len()
     }
@@ -315,7 +315,7 @@ impl<A: Archive + Drop, F: Frame + Drop> Core<A, F> {
         requires want { IsWant self.old.config want.now }
         requires whole { IsTrue A.tells → HasLength (content A.blobs) self.old.config want.now }
         requires new { find (tag_of want.now.key) self.old.policy ≡ None }
-        ensures assigned { self.new ≡ record self.old { policy = map_front region (tag_of want.now.key) now self.old.policy; cells = slice_set self.old.cells region (with_region (assign (tag_of want.now.key) want.now.len (view_at self.old.cells region).note.region) (view_at self.old.cells region)) } }
+        ensures assigned { self.new ≡ record self.old { policy = map_front region (tag_of want.now.key) now self.old.policy; cells = slice_set self.old.cells region (with_region (assign (tag_of want.now.key) want.now.len (view_at self.old.cells region).metadata.region) (view_at self.old.cells region)) } }
         ensures mapped { tag_at self.new.policy region ≡ Some (tag_of want.now.key) }
     {
         self.policy.map(region, want.key, now);
@@ -331,7 +331,7 @@ impl<A: Archive + Drop, F: Frame + Drop> Core<A, F> {
         requires free { hold_at (state_of self.old) actor ≡ None }
         requires want { IsWant self.old.config want.now }
         requires mapped { tag_at self.old.policy region ≡ Some (tag_of want.now.key) }
-        requires len { len_of (view_at self.old.cells region).note.region ≡ want.now.len }
+        requires len { len_of (view_at self.old.cells region).metadata.region ≡ want.now.len }
         requires room { 0 < (view_at self.old.cells region).spare }
         ensures answer { result ≡ (hold actor region want.now (state_of self.old)).0 }
         ensures state { state_of self.new ≡ (hold actor region want.now (state_of self.old)).1 }
@@ -350,12 +350,12 @@ impl<A: Archive + Drop, F: Frame + Drop> Core<A, F> {
     /// `CacheDoor::take_bytes` of this actor.
     pub(crate) fn take_bytes(&mut self, actor: u32, out: &mut [u8]) -> Taken
         requires actor { actor < length self.old.holds }
-        requires held { (told_hold (hold_at (state_of self.old) actor)).held ≡ true }
-        requires len { length out.old ≡ (told_hold (hold_at (state_of self.old) actor)).sub.end - (told_hold (hold_at (state_of self.old) actor)).sub.start }
+        requires held { (hold_view (hold_at (state_of self.old) actor)).held ≡ true }
+        requires len { length out.old ≡ (hold_view (hold_at (state_of self.old) actor)).sub.end - (hold_view (hold_at (state_of self.old) actor)).sub.start }
         ensures state { state_of self.new ≡ state_of self.old }
         ensures answer { result ≢ taken.FrameFault → result ≡ take_bytes (hold_at (state_of self.old) actor) (state_of self.old) }
         ensures copied { IsTrue (all_tell self.old.cells) → result ≡ taken.Copied → out.new ≡ wanted (hold_at (state_of self.old) actor) (state_of self.old) }
-        ensures bytes { IsTrue A.tells → IsTrue (all_tell self.old.cells) → result ≡ taken.Copied → out.new ≡ slice_of (region_bytes (content A.blobs) self.old.config.region (told_hold (hold_at (state_of self.old) actor)).tag) (told_hold (hold_at (state_of self.old) actor)).sub.start ((told_hold (hold_at (state_of self.old) actor)).sub.end - (told_hold (hold_at (state_of self.old) actor)).sub.start) }
+        ensures bytes { IsTrue A.tells → IsTrue (all_tell self.old.cells) → result ≡ taken.Copied → out.new ≡ slice_of (region_bytes (content A.blobs) self.old.config.region (hold_view (hold_at (state_of self.old) actor)).tag) (hold_view (hold_at (state_of self.old) actor)).sub.start ((hold_view (hold_at (state_of self.old) actor)).sub.end - (hold_view (hold_at (state_of self.old) actor)).sub.start) }
         ensures fault { result ≡ taken.FrameFault → Rose (all_faults self.old.cells) (all_faults self.new.cells) }
         ensures steady { IsTrue (all_steady self.old.cells) → result ≢ taken.FrameFault }
         ensures later { Later self.old self.new }
@@ -394,11 +394,11 @@ impl<A: Archive + Drop, F: Frame + Drop> Core<A, F> {
     /// `CacheDoor::store` of this actor.
     pub(crate) fn store(&mut self, actor: u32, piece: &Piece<A>) -> Result<(), FrameFault>
         requires actor { actor < length self.old.holds }
-        requires held { (told_hold (hold_at (state_of self.old) actor)).held ≡ true }
-        requires piece { FitsGap self.old.config.region (told_hold (hold_at (state_of self.old) actor)) piece.now }
+        requires held { (hold_view (hold_at (state_of self.old) actor)).held ≡ true }
+        requires piece { FitsGap self.old.config.region (hold_view (hold_at (state_of self.old) actor)) piece.now }
         ensures state { OnOk result (state_of self.new ≡ store actor (hold_at (state_of self.old) actor) piece.now.bytes (state_of self.old)) }
         ensures same { OnErr result (SamePresent (state_of self.old) (state_of self.new)) }
-        ensures hold { told_hold (hold_at (state_of self.new) actor) ≡ stored_hold (length piece.now.bytes) result (told_hold (hold_at (state_of self.old) actor)) }
+        ensures hold { hold_view (hold_at (state_of self.new) actor) ≡ stored_hold (length piece.now.bytes) result (hold_view (hold_at (state_of self.old) actor)) }
         ensures fault { OnErr result (Rose (all_faults self.old.cells) (all_faults self.new.cells)) }
         ensures steady { IsTrue (all_steady self.old.cells) → IsOk result }
         ensures later { Later self.old self.new }
@@ -430,10 +430,10 @@ impl<A: Archive + Drop, F: Frame + Drop> Core<A, F> {
     /// `CacheDoor::fail` of this actor.
     pub(crate) fn fail(&mut self, actor: u32)
         requires actor { actor < length self.old.holds }
-        requires held { (told_hold (hold_at (state_of self.old) actor)).held ≡ true }
-        requires open { (told_hold (hold_at (state_of self.old) actor)).upto < (told_hold (hold_at (state_of self.old) actor)).gap_end }
+        requires held { (hold_view (hold_at (state_of self.old) actor)).held ≡ true }
+        requires open { (hold_view (hold_at (state_of self.old) actor)).upto < (hold_view (hold_at (state_of self.old) actor)).gap_end }
         ensures state { state_of self.new ≡ fail actor (hold_at (state_of self.old) actor) (state_of self.old) }
-        ensures hold { told_hold (hold_at (state_of self.new) actor) ≡ failed_hold (told_hold (hold_at (state_of self.old) actor)) }
+        ensures hold { hold_view (hold_at (state_of self.new) actor) ≡ failed_hold (hold_view (hold_at (state_of self.old) actor)) }
         ensures later { Later self.old self.new }
         ensures work { Works self.old.work self.new.work no_work }
     {
@@ -455,10 +455,10 @@ impl<A: Archive + Drop, F: Frame + Drop> Core<A, F> {
     /// `CacheDoor::leave` of this actor.
     pub(crate) fn leave(&mut self, actor: u32)
         requires actor { actor < length self.old.holds }
-        requires held { (told_hold (hold_at (state_of self.old) actor)).held ≡ true }
-        requires closed { (told_hold (hold_at (state_of self.old) actor)).gap_end ≤ (told_hold (hold_at (state_of self.old) actor)).upto }
+        requires held { (hold_view (hold_at (state_of self.old) actor)).held ≡ true }
+        requires closed { (hold_view (hold_at (state_of self.old) actor)).gap_end ≤ (hold_view (hold_at (state_of self.old) actor)).upto }
         ensures state { state_of self.new ≡ leave actor (hold_at (state_of self.old) actor) (state_of self.old) }
-        ensures hold { told_hold (hold_at (state_of self.new) actor) ≡ nothing }
+        ensures hold { hold_view (hold_at (state_of self.new) actor) ≡ nothing }
         ensures later { Later self.old self.new }
         ensures work { Works self.old.work self.new.work no_work }
     {

@@ -47,12 +47,12 @@ pub fn claim<A: Archive, F: Frame>(
     want: &Want,
 ) -> (Hold, Option<ByteRange>)
     requires key { IsKey want.now.key }
-    requires lies { LiesInRange want.now.sub cell.old.note }
+    requires lies { LiesInRange want.now.sub cell.old.metadata }
     requires room { 0 < cell.old.spare }
-    ensures cell { cell.new ≡ record (with_region (claim cell.old.note.range want.now.sub cell.old.note.region) cell.old) { spare = cell.old.spare - 1 } }
-    ensures hold { result.0 ≡ hold_on cell.old.note.range region want.now cell.old.note.region }
-    ensures gap { result.1 ≡ claim_run cell.old.note.range want.now.sub cell.old.note.region }
-    ensures inside { IfSome result.1 (λ g. (g.start < g.end) × (want.now.sub.start / cell.old.note.range * cell.old.note.range ≤ g.start) × (g.end ≤ want.now.sub.start / cell.old.note.range * cell.old.note.range + cell.old.note.range) × (g.end ≤ len_of cell.old.note.region)) }
+    ensures cell { cell.new ≡ record (with_region (claim cell.old.metadata.range want.now.sub cell.old.metadata.region) cell.old) { spare = cell.old.spare - 1 } }
+    ensures hold { result.0 ≡ hold_on cell.old.metadata.range region want.now cell.old.metadata.region }
+    ensures gap { result.1 ≡ claim_run cell.old.metadata.range want.now.sub cell.old.metadata.region }
+    ensures inside { IfSome result.1 (λ g. (g.start < g.end) × (want.now.sub.start / cell.old.metadata.range * cell.old.metadata.range ≤ g.start) × (g.end ≤ want.now.sub.start / cell.old.metadata.range * cell.old.metadata.range + cell.old.metadata.range) × (g.end ≤ len_of cell.old.metadata.region)) }
     ensures good { IsGood A.tells (content A.blobs) cell.new }
 {
     claim_places();
@@ -72,7 +72,7 @@ pub fn claim<A: Archive, F: Frame>(
 
 // The tag of the cell's key, or the free tag.
 fn tag<A: Archive, F: Frame>(cell: &RegionCell<A, F>) -> u64
-    ensures { result ≡ cell.now.note.region.tag }
+    ensures { result ≡ cell.now.metadata.region.tag }
 {
     match cell.key() {
         Some(key) => key.pack(),
@@ -88,15 +88,15 @@ pub fn look<A: Archive, F: Frame>(
 ) -> Glance
     requires key { IsKey want.now.key }
     requires some { want.now.sub.start < want.now.sub.end }
-    requires one { want.now.sub.start / cell.old.note.range ≡ (want.now.sub.end - 1) / cell.old.note.range }
+    requires one { want.now.sub.start / cell.old.metadata.range ≡ (want.now.sub.end - 1) / cell.old.metadata.range }
     requires len { length out.old ≡ want.now.sub.end - want.now.sub.start }
-    ensures same { cell.new ≡ with_frame cell.new.note.frame cell.old }
-    ensures frame { FrameStays cell.old.note.frame cell.new.note.frame }
-    ensures answer { result ≢ glance.FrameFault → result ≡ look_at want.now cell.old.note.region }
-    ensures fault { result ≡ glance.FrameFault → Faulted cell.old.note.frame cell.new.note.frame }
-    ensures steady { IsTrue cell.old.note.frame.steady → result ≢ glance.FrameFault }
-    ensures bytes { IsTrue cell.old.note.frame.tells → result ≡ glance.Copied → out.new ≡ slice_of cell.old.bytes want.now.sub.start (want.now.sub.end - want.now.sub.start) }
-    ensures content { IsTrue A.tells → IsTrue cell.old.note.frame.tells → result ≡ glance.Copied → out.new ≡ slice_of (region_bytes (content A.blobs) cell.old.note.frame.size cell.old.note.region.tag) want.now.sub.start (want.now.sub.end - want.now.sub.start) }
+    ensures same { cell.new ≡ with_frame cell.new.metadata.frame cell.old }
+    ensures frame { FrameStays cell.old.metadata.frame cell.new.metadata.frame }
+    ensures answer { result ≢ glance.FrameFault → result ≡ look_at want.now cell.old.metadata.region }
+    ensures fault { result ≡ glance.FrameFault → Faulted cell.old.metadata.frame cell.new.metadata.frame }
+    ensures steady { IsTrue cell.old.metadata.frame.steady → result ≢ glance.FrameFault }
+    ensures bytes { IsTrue cell.old.metadata.frame.tells → result ≡ glance.Copied → out.new ≡ slice_of cell.old.bytes want.now.sub.start (want.now.sub.end - want.now.sub.start) }
+    ensures content { IsTrue A.tells → IsTrue cell.old.metadata.frame.tells → result ≡ glance.Copied → out.new ≡ slice_of (region_bytes (content A.blobs) cell.old.metadata.frame.size cell.old.metadata.region.tag) want.now.sub.start (want.now.sub.end - want.now.sub.start) }
 {
     let tag = tag(cell);
     if tag != want.key.pack() {

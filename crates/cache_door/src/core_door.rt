@@ -4,7 +4,7 @@ ghost use Rattle.std.specs.Prelude.{◌≡◌, ◌≢◌, ◌<◌, ◌≤◌, �
 ghost use Rattle.region_ranges.specs.declared.keys.Config.{Config};
 ghost use Rattle.cache_door.specs.declared.work.Work.{Work};
 ghost use Rattle.cache_door.specs.Machine.{State, hold_at, is_gone};
-ghost use Rattle.cache_door.specs.Doors.{Told, told_hold};
+ghost use Rattle.cache_door.specs.Doors.{HoldView, hold_view};
 ghost use Rattle.cache_door.specs.Cores.{state_of, all_tell, all_steady, all_faults, Later};
 
 use crate::answers::{Entered, Glance, Want};
@@ -48,7 +48,7 @@ impl<'a, A: Archive + Drop, F: Frame + Drop> CacheDoor<A> for CoreDoor<'a, A, F>
     ghost use Rattle.std.proofs.Common.{◌∙◌};
     ghost use Rattle.cache_door.specs.Stays.{later_same, later_on};
 
-    ghost hold = { λ d. told_hold (hold_at (state_of d.core.now) d.actor) };
+    ghost hold = { λ d. hold_view (hold_at (state_of d.core.now) d.actor) };
 
     ghost config = { λ d. d.core.now.config };
 

@@ -8,7 +8,7 @@ ghost use Rattle.region_cell.specs.declared.taken.Taken.TheVariants as taken;
 ghost use Rattle.cache_door.specs.declared.answers.Glance.TheVariants as glance;
 ghost use Rattle.cache_door.specs.Machine.{State, enter, take_bytes, wanted, bytes_in, store, fail, leave, look, age, clear, unmount, hold_at};
 ghost use Rattle.cache_door.specs.declared.work.Work.{Work};
-ghost use Rattle.cache_door.specs.Doors.{Told, nothing, entry_hold, stored_hold, failed_hold, Works, no_work, entry_work, take_work, glance_work, store_work, FitsGap, IsWant, HasLength, IsEntry, SameState, Grown, Agrees};
+ghost use Rattle.cache_door.specs.Doors.{HoldView, nothing, entry_hold, stored_hold, failed_hold, Works, no_work, entry_work, take_work, glance_work, store_work, FitsGap, IsWant, HasLength, IsEntry, SameState, Grown, Agrees};
 
 use crate::answers::{Entered, Glance, Want};
 use blob_parts::Piece;
@@ -23,7 +23,7 @@ use std::alloc::AllocError;
 /// by the content.
 pub trait CacheDoor<A: Archive> {
     /// What is held: nothing, or the region, the wanted key and bytes, and the gap that is to be stored.
-    ghost hold: { Self → Told };
+    ghost hold: { Self → HoldView };
 
     /// What the cache was made with. No call changes it.
     ghost config: { Self → Config };

@@ -16,10 +16,10 @@ mod work;
 
 pub use answers::{Entered, Glance, Want};
 pub use cache::Core;
+pub use claims::{claim, look};
 pub use core_door::{CoreDoor, core_crosses};
 pub use door::CacheDoor;
 pub use hold::Hold;
 pub use laws::{claims_absent, one_owner, present_kept};
 pub use region_cell::Taken;
 pub use work::Work;
-pub use claims::{claim, look};

@@ -15,14 +15,14 @@ use Rattle.cache_policy.proofs.Tags.{at, at_same, at_other, at_within, one_is, n
 use Rattle.cache_policy.proofs.Places.{moved, moved_in, pushed_again, unlink_other_times, head_free, times_lower, length_lower, all_free, none_past}
 
 module _ (p : PolicyView) (good : IsGood p) where
-  keep : (q : PolicyView) → ((r : ℕ) → places q r ≡ places p r) → length q.tags ≡ length p.tags → length q.stamps ≡ length p.stamps → length q.lists ≡ length p.lists
+  keep : (q : PolicyView) → ((r : ℕ) → places q r ≡ places p r) → length q.tags ≡ length p.tags → length q.last_accesses ≡ length p.last_accesses → length q.lists ≡ length p.lists
       → ((r : ℕ) → times r q.lists ≡ one_if_some (tag_at q r)) → ((r s tag : ℕ) → tag_at q r ≡ Some tag → tag_at q s ≡ Some tag → r ≡ s) → IsGood q
-  keep q same tags stamps lists mapped keys = record {
+  keep q same tags last_accesses lists mapped keys = record {
     once = λ r h. same r ∙ good.once r (omega (arith, h, tags));
     none_else = λ r h. same r ∙ good.none_else r (omega (arith, h, tags));
     mapped = mapped;
     keys = keys;
-    stamps = stamps ∙ good.stamps ∙ sym tags;
+    last_accesses = last_accesses ∙ good.last_accesses ∙ sym tags;
     some = (omega (arith, lists, good.some.0), omega (arith, tags, good.some.1));
     few = (omega (arith, lists, good.few.0), omega (arith, tags, good.few.1));
   }
@@ -111,11 +111,11 @@ module _ (p : PolicyView) (good : IsGood p) where
         (length-set p.tags r None) refl (length_unlink r p.lists) gone_mapped
         (λ j s tag h g. good.keys j s tag (was j tag h) (was s tag g))
 
-    pub good_raise : (k now n : ℕ) → k < length p.lists → IsGood (record p { lists = push_back k r (unlink r p.lists); stamps = slice_set p.stamps r now; promotions = n })
+    pub good_raise : (k now n : ℕ) → k < length p.lists → IsGood (record p { lists = push_back k r (unlink r p.lists); last_accesses = slice_set p.last_accesses r now; promotions = n })
     good_raise k now n h =
-        keep (record p { lists = push_back k r (unlink r p.lists); stamps = slice_set p.stamps r now; promotions = n })
+        keep (record p { lists = push_back k r (unlink r p.lists); last_accesses = slice_set p.last_accesses r now; promotions = n })
         (λ j. omega (arith, pushed_again r k j p.lists listed_once h))
-        refl (length-set p.stamps r now) (length_push k r (unlink r p.lists) ∙ length_unlink r p.lists)
+        refl (length-set p.last_accesses r now) (length_push k r (unlink r p.lists) ∙ length_unlink r p.lists)
         (λ j. pushed_again r k j p.lists listed_once h ∙ good.mapped j) good.keys
 
   pub good_lower : (goes : ℕ → Bool) (n : ℕ) → IsGood (record p { lists = lower goes p.lists; demotions = n })
@@ -151,11 +151,11 @@ module _ (p : PolicyView) (good : IsGood p) where
     front_not_listed = omega (arith, free_region, at_most_one r)
 
     pub good_map : (now : ℕ) → position_from (is_tag tag) 0 p.tags ≡ None
-        → IsGood (record p { free = drop 1 p.free; lists = push_back 0 r p.lists; tags = slice_set p.tags r (Some tag); stamps = slice_set p.stamps r now })
+        → IsGood (record p { free = drop 1 p.free; lists = push_back 0 r p.lists; tags = slice_set p.tags r (Some tag); last_accesses = slice_set p.last_accesses r now })
     good_map now new =
-        keep (record p { free = drop 1 p.free; lists = push_back 0 r p.lists; tags = slice_set p.tags r (Some tag); stamps = slice_set p.stamps r now })
+        keep (record p { free = drop 1 p.free; lists = push_back 0 r p.lists; tags = slice_set p.tags r (Some tag); last_accesses = slice_set p.last_accesses r now })
         (λ j. omega (arith, head_free r j p.free front, times_push j 0 r p.lists good.some.0))
-        (length-set p.tags r (Some tag)) (length-set p.stamps r now) (length_push 0 r p.lists) mapped keys
+        (length-set p.tags r (Some tag)) (length-set p.last_accesses r now) (length_push 0 r p.lists) mapped keys
       where
         mapped : (j : ℕ) → times j (push_back 0 r p.lists) ≡ one_if_some (at (slice_set p.tags r (Some tag)) j)
         mapped j = elim (cases_eq r j) [
@@ -189,20 +189,20 @@ at_none (suc n) (suc j) = at_none n j
 pub good_new : (regions max_freq min_delta : ℕ) → 0 < regions → regions < 4294967296 → 0 < max_freq → max_freq < 4294967296 → IsGood (new_policy regions max_freq min_delta)
 good_new regions max_freq min_delta r0 r1 f0 f1 =
     let tags = length-replicate {A = Option ℕ} regions None in
-    let stamps = length-replicate {A = ℕ} regions 0 in
+    let last_accesses = length-replicate {A = ℕ} regions 0 in
     let lists = length-replicate {A = List ℕ} max_freq [] in
     record {
       once = λ r h. omega (arith, all_free r regions (omega (arith, h, tags)), times_empty r max_freq);
       none_else = λ r h. omega (arith, none_past r regions (omega (arith, h, tags)), times_empty r max_freq);
       mapped = λ r. times_empty r max_freq ∙ (rw (at_none regions r) refl);
       keys = λ r s tag h g. let e = rw (at_none regions r) at h in absurd (cc);
-      stamps = stamps ∙ sym tags;
+      last_accesses = last_accesses ∙ sym tags;
       some = (omega (arith, lists), omega (arith, tags));
       few = (omega (arith, lists), omega (arith, tags));
     }
 
 pub good_made : (regions max_freq min_delta : ℕ) → 0 < regions → regions < 4294967296 → 0 < max_freq → max_freq < 4294967296
-    → (free leaving stamps : List ℕ) (lists : List (List ℕ)) (tags : List (Option ℕ))
-    → free ≡ range_with_len 0 regions → lists ≡ replicate max_freq [] → tags ≡ replicate regions None → stamps ≡ replicate regions 0 → leaving ≡ []
-    → IsGood (record { free = free; lists = lists; tags = tags; stamps = stamps; leaving = leaving; evictions = 0; promotions = 0; demotions = 0; min_delta = min_delta })
-good_made regions max_freq min_delta r0 r1 f0 f1 free leaving stamps lists tags a b d e g = rw (a, b, d, e, g) (good_new regions max_freq min_delta r0 r1 f0 f1)
+    → (free leaving last_accesses : List ℕ) (lists : List (List ℕ)) (tags : List (Option ℕ))
+    → free ≡ range_with_len 0 regions → lists ≡ replicate max_freq [] → tags ≡ replicate regions None → last_accesses ≡ replicate regions 0 → leaving ≡ []
+    → IsGood (record { free = free; lists = lists; tags = tags; last_accesses = last_accesses; leaving = leaving; evictions = 0; promotions = 0; demotions = 0; min_delta = min_delta })
+good_made regions max_freq min_delta r0 r1 f0 f1 free leaving last_accesses lists tags a b d e g = rw (a, b, d, e, g) (good_new regions max_freq min_delta r0 r1 f0 f1)

@@ -9,8 +9,8 @@ three = touch 2 100000 (touch 1 60000 (map_front 2 12 0 (map_front 1 11 0 (map_f
 lists_before : three.lists ≡ (0 ∷ []) ∷ (1 ∷ 2 ∷ []) ∷ replicate 98 []
 lists_before = refl
 
-stamps_before : three.stamps ≡ 0 ∷ 60000 ∷ 100000 ∷ []
-stamps_before = refl
+last_accesses_before : three.last_accesses ≡ 0 ∷ 60000 ∷ 100000 ∷ []
+last_accesses_before = refl
 
 lists_after : (decay 180000 three).lists ≡ (0 ∷ 1 ∷ []) ∷ (2 ∷ []) ∷ replicate 98 []
 lists_after = refl
@@ -27,8 +27,8 @@ too_soon = refl
 in_time : (touch 0 60000 one).lists ≡ [] ∷ (0 ∷ []) ∷ replicate 98 []
 in_time = refl
 
-in_time_stamp : (touch 0 60000 one).stamps ≡ 60000 ∷ []
-in_time_stamp = refl
+in_time_last_access : (touch 0 60000 one).last_accesses ≡ 60000 ∷ []
+in_time_last_access = refl
 
 abbrev at_top : PolicyView
 at_top = record one { lists = (replicate 1 []) }
@@ -40,7 +40,7 @@ low = map_front 0 10 0 (new_policy 1 2 60000)
 stays_at_the_top : touch 0 120000 (touch 0 60000 low) ≡ touch 0 60000 low
 stays_at_the_top = refl
 
-earlier_time : touch 0 50 (record one { stamps = 100 ∷ [] }) ≡ record one { stamps = 100 ∷ [] }
+earlier_time : touch 0 50 (record one { last_accesses = 100 ∷ [] }) ≡ record one { last_accesses = 100 ∷ [] }
 earlier_time = refl
 
 finds : find 11 three ≡ Some 1

@@ -6,17 +6,17 @@ use Rattle.cache_policy.specs.Policy.{PolicyView, rise}
 
 -- the front free region gets the key and frequency 0
 abbrev pub map_front : ℕ → ℕ → ℕ → PolicyView → PolicyView
-map_front r tag now p = record p { free = drop 1 p.free; lists = push_back 0 r p.lists; tags = slice_set p.tags r (Some tag); stamps = slice_set p.stamps r now }
+map_front r tag now p = record p { free = drop 1 p.free; lists = push_back 0 r p.lists; tags = slice_set p.tags r (Some tag); last_accesses = slice_set p.last_accesses r now }
 
 -- so many times the least interval passed since the last access
 abbrev pub waited : ℕ → ℕ → ℕ → PolicyView → Bool
-waited times r now p = nat_le (times * p.min_delta) (now - slice_index p.stamps r)
+waited times r now p = nat_le (times * p.min_delta) (now - slice_index p.last_accesses r)
 
 abbrev pub touch_at : Option ℕ → ℕ → ℕ → PolicyView → PolicyView
 touch_at None r now p = p
 touch_at (Some f) r now p =
     if waited 1 r now p && nat_lt (f + 1) (length p.lists)
-    then record p { lists = push_back (f + 1) r (unlink r p.lists); stamps = slice_set p.stamps r now; promotions = rise p.promotions 1 }
+    then record p { lists = push_back (f + 1) r (unlink r p.lists); last_accesses = slice_set p.last_accesses r now; promotions = rise p.promotions 1 }
     else p
 
 -- the frequency of a region that waited long enough rises by one

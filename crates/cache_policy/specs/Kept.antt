@@ -19,6 +19,6 @@ pub record IsGood (p : PolicyView) : Type 0 where
   pub mapped : (r : ℕ) → times r p.lists ≡ one_if_some (tag_at p r)
   -- the keys of mapped regions differ
   pub keys : (r s tag : ℕ) → tag_at p r ≡ Some tag → tag_at p s ≡ Some tag → r ≡ s
-  pub stamps : length p.stamps ≡ length p.tags
+  pub last_accesses : length p.last_accesses ≡ length p.tags
   pub some : (0 < length p.lists) × (0 < length p.tags)
   pub few : (length p.lists < 4294967296) × (length p.tags < 4294967296)

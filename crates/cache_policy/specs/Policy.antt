@@ -5,13 +5,13 @@ use Rattle.region_ranges.specs.Keys.{manifest_of}
 use Rattle.freq_lists.specs.Lists.{unlink, without}
 
 -- `free` and `leaving` are lists of regions, `lists` has one list of regions for each frequency, so that the frequency of a
--- region is the number of its list. `tags` and `stamps` are by region: the packed key of a mapped region, and the time of its
+-- region is the number of its list. `tags` and `last_accesses` are by region: the packed key of a mapped region, and the time of its
 -- last access in milliseconds.
 pub record PolicyView : Type 0 where
   pub free : List ℕ
   pub lists : List (List ℕ)
   pub tags : List (Option ℕ)
-  pub stamps : List ℕ
+  pub last_accesses : List ℕ
   pub leaving : List ℕ
   pub evictions : ℕ
   pub promotions : ℕ
@@ -24,7 +24,7 @@ new_policy regions max_freq min_delta = record {
   free = range_with_len 0 regions;
   lists = replicate max_freq [];
   tags = replicate regions None;
-  stamps = replicate regions 0;
+  last_accesses = replicate regions 0;
   leaving = [];
   evictions = 0;
   promotions = 0;

@@ -3,7 +3,7 @@ use Rattle.std.specs.Prelude.{◌-◌, ◌*◌, ℕ, zero, suc, Bool, not, nat_l
 use Rattle.cache_policy.specs.Ageing.{lower, count_lowered}
 
 abbrev pub goes_down : List ℕ → ℕ → ℕ → ℕ → Bool
-goes_down stamps min_delta now r = nat_le (2 * min_delta) (now - slice_index stamps r)
+goes_down last_accesses min_delta now r = nat_le (2 * min_delta) (now - slice_index last_accesses r)
 
 -- the first i entries of list k + 1 were looked at, and those that go down stand in list k
 abbrev pub lowering : (ℕ → Bool) → ℕ → ℕ → List (List ℕ) → List (List ℕ)

@@ -25,7 +25,7 @@ pub struct Policy {
     // by region: its packed key where it is mapped
     tags: Vec<Option<u64>>,
     // by region: the time of its last access
-    stamps: Vec<u64>,
+    last_accesses: Vec<u64>,
     leaving: Vec<u32>,
     evictions: u64,
     promotions: u64,
@@ -59,7 +59,7 @@ impl Policy {
             lists: FreqLists::new(alloc, config.regions, config.max_freq)?,
             max_freq: config.max_freq,
             tags: vec![in alloc; None; config.regions as usize]?,
-            stamps: vec![in alloc; 0; config.regions as usize]?,
+            last_accesses: vec![in alloc; 0; config.regions as usize]?,
             leaving: Vec::with_capacity(alloc, config.regions as usize)?,
             evictions: 0,
             promotions: 0,
@@ -88,11 +88,11 @@ impl Policy {
         let Some(frequency) = self.lists.list_of(region) else {
             return;
         };
-        let waited = now.saturating_sub(self.stamps[region as usize]) >= self.min_delta;
+        let waited = now.saturating_sub(self.last_accesses[region as usize]) >= self.min_delta;
         if waited && frequency + 1 < self.max_freq {
             self.lists.unlink(region);
             self.lists.push_back(frequency + 1, region);
-            self.stamps[region as usize] = now;
+            self.last_accesses[region as usize] = now;
             self.promotions = self.promotions.saturating_add(1);
         }
     }
@@ -132,7 +132,7 @@ impl Policy {
         self.free.remove(0);
         self.lists.push_back(0, region);
         self.tags[region as usize] = Some(key.pack());
-        self.stamps[region as usize] = now;
+        self.last_accesses[region as usize] = now;
     }
 
     /// Evicts a mapped region: it loses its key and is the last free one.
@@ -183,7 +183,7 @@ impl Policy {
         self.demotions = lower_all(
             &mut self.lists,
             self.max_freq,
-            &self.stamps,
+            &self.last_accesses,
             self.min_delta,
             now,
             self.demotions,

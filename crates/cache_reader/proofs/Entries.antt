@@ -16,7 +16,7 @@ use Rattle.cache_door.specs.declared.answers.Glance.TheVariants as glance
 use Rattle.cache_reader.specs.Stored.{gap_stored}
 use Rattle.cache_door.specs.Machine.{State, enter, hold_at, look, leave, is_gone}
 use Rattle.cache_door.specs.Good.{Good}
-use Rattle.cache_door.specs.Doors.{Told, nothing, Agrees, IsWant, HasLength, range_start, range_end}
+use Rattle.cache_door.specs.Doors.{HoldView, nothing, Agrees, IsWant, HasLength, range_start, range_end}
 use Rattle.cache_door.specs.Takes.{parts, want_of}
 use Rattle.directory_input.specs.Causes.{IsCaused}
 use Rattle.directory_input.specs.Reads.{Read}
@@ -43,7 +43,7 @@ pub record Known (tells : Bool) (files : ℕ → ℕ → List ℕ) (c : Line) (a
   pub wants : want ≡ want_of s.config.region c.table.number file (length (bytes_of c file)) p
   pub place : base ≡ part_base p s
 
-pub known_of : {tells : Bool} {files : ℕ → ℕ → List ℕ} (c : Line) (a file size : ℕ) (p : ByteRange) (want : Want) (config : Config) (frames : Bool) (h : Told) (seen unmounted : ℕ → Bool) (s : State)
+pub known_of : {tells : Bool} {files : ℕ → ℕ → List ℕ} (c : Line) (a file size : ℕ) (p : ByteRange) (want : Want) (config : Config) (frames : Bool) (h : HoldView) (seen unmounted : ℕ → Bool) (s : State)
     → Agrees tells files config frames h a seen unmounted s → h ≡ nothing → config ≡ c.config → want ≡ want_of c.config.region c.table.number file size p → length (bytes_of c file) ≡ size
     → Known tells files c a file p want (p.start - want.sub.start) s
 known_of c a file size p want config frames h seen unmounted s is free own wants long =

@@ -7,7 +7,7 @@ use Rattle.cache_door.specs.declared.answers.Want.{Want}
 use Rattle.cache_door.specs.declared.answers.Entered.TheVariants.{Held}
 use Rattle.cache_door.specs.Machine.{State, hold_at, enter, take_bytes}
 use Rattle.cache_door.specs.Good.{Good}
-use Rattle.cache_door.specs.Doors.{told_hold}
+use Rattle.cache_door.specs.Doors.{hold_view}
 use Rattle.cache_reader.specs.Parts.{Line, bytes_of}
 use Rattle.cache_reader.specs.Stored.{gap_stored}
 use Rattle.cache_reader.specs.Holds.{Unfailed}
@@ -23,7 +23,7 @@ gap_actors c a file base (Some g) s = store_actors s a (hold_at s a) (slice_of (
 
 -- behind the store of its gap a hold that did not fail is copied
 pub gap_copied : {tells : Bool} {files : ℕ → ℕ → List ℕ} (c : Line) (a file base : ℕ) (gap : Option ByteRange) (s : State) → Unfailed a s → length s.holds ≡ 1 → Good tells files (gap_stored c a file base gap s)
-    → (told_hold (hold_at (gap_stored c a file base gap s) a)).gap_end ≤ (told_hold (hold_at (gap_stored c a file base gap s) a)).upto
+    → (hold_view (hold_at (gap_stored c a file base gap s) a)).gap_end ≤ (hold_view (hold_at (gap_stored c a file base gap s) a)).upto
     → take_bytes (hold_at (gap_stored c a file base gap s) a) (gap_stored c a file base gap s) ≡ taken.Copied
 gap_copied c a file base gap s u one good closed = alone_copied (gap_stored c a file base gap s) a good (gap_actors c a file base gap s ∙ one) (gap_unfailed c a file base gap s u) closed
 

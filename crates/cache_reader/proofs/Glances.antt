@@ -10,8 +10,8 @@ use Rattle.region_ranges.specs.declared.ranges.ByteRange.{ByteRange}
 use Rattle.region_ranges.specs.Keys.{tag_of}
 use Rattle.region_ranges.specs.Ranges.{first_run}
 use Rattle.sparse_tracker.specs.declared.tickets.Ticket.{Ticket}
-use Rattle.sparse_tracker.specs.Letters as letters
-use Rattle.sparse_tracker.specs.Letters.{Letter, absent, pending, present, Tracker, is_absent, is_present, not_behind, least_unused, numbers, new_ticket, with_ticket, without_ticket, open_gap_at}
+use Rattle.sparse_tracker.specs.ByteStates as byte_states
+use Rattle.sparse_tracker.specs.ByteStates.{ByteState, absent, pending, present, Tracker, is_absent, is_present, not_behind, least_unused, numbers, new_ticket, with_ticket, without_ticket, open_gap_at}
 use Rattle.sparse_tracker.specs.Weights.{total}
 use Rattle.cache_policy.specs.Policy.{PolicyView, find, is_tag}
 use Rattle.region_cell.specs.Cells as cells
@@ -34,38 +34,38 @@ use Rattle.cache_reader.proofs.Rooms.{found_inside}
 some_none : {X : Type 0} {x : X} → None ≡ Some x → ⊥
 some_none e = cc
 
--- ---- flags of letters
+-- ---- flags of states
 
-abbrev flag : List Letter → ℕ → Bool
+abbrev flag : List ByteState → ℕ → Bool
 flag ls i = get_or (map is_absent ls) i false
 
-flag_present : (ls : List Letter) (i : ℕ) → list_all is_present ls ≡ true → flag ls i ≡ false
+flag_present : (ls : List ByteState) (i : ℕ) → list_all is_present ls ≡ true → flag ls i ≡ false
 flag_present [] i e = refl
 flag_present (absent ∷ ls) i e = absurd (false≢true e)
 flag_present (pending g ∷ ls) i e = absurd (false≢true e)
 flag_present (present ∷ ls) zero e = refl
 flag_present (present ∷ ls) (suc i) e = flag_present ls i e
 
-flag_take : (k i : ℕ) (ls : List Letter) → i < k → flag (take k ls) i ≡ flag ls i
+flag_take : (k i : ℕ) (ls : List ByteState) → i < k → flag (take k ls) i ≡ flag ls i
 flag_take zero i ls h = absurd (omega (arith, h))
 flag_take (suc k) i [] h = refl
 flag_take (suc k) zero (l ∷ ls) h = refl
 flag_take (suc k) (suc i) (l ∷ ls) h = flag_take k i ls (omega (arith, h))
 
-flag_past : (k i : ℕ) (ls : List Letter) → k ≤ i → flag (take k ls) i ≡ false
+flag_past : (k i : ℕ) (ls : List ByteState) → k ≤ i → flag (take k ls) i ≡ false
 flag_past zero i ls h = refl
 flag_past (suc k) i [] h = refl
 flag_past (suc k) zero (l ∷ ls) h = absurd (omega (arith, h))
 flag_past (suc k) (suc i) (l ∷ ls) h = flag_past k i ls (omega (arith, h))
 
-flag_drop : (k i j : ℕ) (ls : List Letter) → j ≡ k + i → flag (drop k ls) i ≡ flag ls j
+flag_drop : (k i j : ℕ) (ls : List ByteState) → j ≡ k + i → flag (drop k ls) i ≡ flag ls j
 flag_drop zero i j ls e = let f : i ≡ j = omega (arith, e) in ap (λ n. flag ls n) f
 flag_drop (suc k) i j [] e = refl
 flag_drop (suc k) i zero (l ∷ ls) e = absurd (omega (arith, e))
 flag_drop (suc k) i (suc j) (l ∷ ls) e = flag_drop k i j ls (omega (arith, e))
 
--- where all letters of a sub-range are present none of its flags is set
-flag_clear : (ls : List Letter) (start end n i : ℕ) → list_all is_present (slice_range ls start end) ≡ true → start ≤ i → i < end → i < n → flag (take n ls) i ≡ false
+-- where all states of a sub-range are present none of its flags is set
+flag_clear : (ls : List ByteState) (start end n i : ℕ) → list_all is_present (slice_range ls start end) ≡ true → start ≤ i → i < end → i < n → flag (take n ls) i ≡ false
 flag_clear ls start end n i e low high most =
     flag_take n i ls most
     ∙ sym (flag_drop start (i - start) i ls (omega (arith, low)))
@@ -151,10 +151,10 @@ module _ (free : List Bool) (start : ℕ) (sub : ByteRange) (low : start ≤ sub
 claim_none : (range : ℕ) (sub : ByteRange) (c : Region) → 0 < range → sub.start < sub.end → are_present sub c ≡ true → claim_run range sub c ≡ None
 claim_none range sub c pos some e =
     let round = range_round range sub c in
-    let free = map is_absent (take round.end c.tracker.letters) in
+    let free = map is_absent (take round.end c.tracker.byte_states) in
     nothing free round.start sub (omega (arith, pos)) some (λ i low high. elim (cases_lt i round.end) [
-      | inl l ↦ flag_clear c.tracker.letters sub.start sub.end round.end i e low high l
-      | inr g ↦ flag_past round.end i c.tracker.letters g
+      | inl l ↦ flag_clear c.tracker.byte_states sub.start sub.end round.end i e low high l
+      | inr g ↦ flag_past round.end i c.tracker.byte_states g
     ])
 
 -- ---- an entry that takes nothing, and the leave behind it
@@ -174,7 +174,7 @@ without_new : (ts : List Ticket) (k : Ticket) → ts ≡ [] → without_ticket k
 without_new [] k e = let y : (k.number == k.number) ≡ true = grind (arith, nat_tests) in rw y refl
 without_new (t ∷ ts) k e = absurd (cc)
 
-left_tracker : (sub : ByteRange) (t : Tracker) (o : Option ByteRange) → o ≡ None → t.tickets ≡ [] → letters.leave (least_unused (numbers t.tickets)) (with_ticket sub (open_gap_at o t)) ≡ t
+left_tracker : (sub : ByteRange) (t : Tracker) (o : Option ByteRange) → o ≡ None → t.tickets ≡ [] → byte_states.leave (least_unused (numbers t.tickets)) (with_ticket sub (open_gap_at o t)) ≡ t
 left_tracker sub t (Some run) n e = absurd (cc)
 left_tracker sub t None n e = ap (λ (l : List Ticket). let r : Tracker = record t { tickets = l } in r) (without_new t.tickets (new_ticket sub t) e)
 

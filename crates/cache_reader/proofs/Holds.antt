@@ -9,7 +9,7 @@ use Rattle.region_ranges.specs.declared.ranges.ByteRange.{ByteRange}
 use Rattle.region_ranges.specs.Keys.{tag_of}
 use Rattle.sparse_tracker.specs.declared.gaps.OpenGap.{OpenGap}
 use Rattle.sparse_tracker.specs.declared.tickets.Ticket.{Ticket}
-use Rattle.sparse_tracker.specs.Letters.{Letter, absent, pending, present, Tracker, is_absent, is_present, letters_in, least_unused, numbers, ids, new_ticket, open_gap_at}
+use Rattle.sparse_tracker.specs.ByteStates.{ByteState, absent, pending, present, Tracker, is_absent, is_present, byte_states_in, least_unused, numbers, ids, new_ticket, open_gap_at}
 use Rattle.sparse_tracker.specs.Kept.{GapsFit}
 use Rattle.sparse_tracker.specs.Weights.{total}
 use Rattle.freq_lists.specs.Lists.{head}
@@ -24,7 +24,7 @@ use Rattle.cache_door.specs.declared.hold.Hold.{Hold}
 use Rattle.cache_door.specs.Machine as machine
 use Rattle.cache_door.specs.Machine.{State, Cell, cell_at, hold_at, no_cell, is_gone, gap_on, hold_on, enter, enter_at, place, make_room, take_bytes, store, store_into, leave}
 use Rattle.cache_door.specs.Good.{Good, weigh_hold, hold_gap}
-use Rattle.cache_door.specs.Doors.{told_hold}
+use Rattle.cache_door.specs.Doors.{hold_view}
 use Rattle.cache_reader.specs.Holds.{Unfailed}
 use Rattle.cache_reader.proofs.Rooms.{found_inside, front_inside}
 
@@ -60,7 +60,7 @@ drop_get zero i xs x e = (i, e)
 drop_get (suc k) i [] x e = absurd (some_none e)
 drop_get (suc k) i (y ∷ ys) x e = let r = drop_get k i ys x e in (suc r.0, r.1)
 
--- the letters of a sub-range are letters of the list
+-- the states of a sub-range are states of the list
 cut_get : {X : Type 0} (start end i : ℕ) (xs : List X) (x : X) → slice_get (slice_range xs start end) i ≡ Some x → (j : ℕ) × (slice_get xs j ≡ Some x)
 cut_get start end i xs x e = drop_get start i xs x (take_get _ i (drop start xs) x e)
 
@@ -68,7 +68,7 @@ get_last : {X : Type 0} (xs : List X) (x : X) → slice_get (xs ++ x ∷ []) (le
 get_last [] x = refl
 get_last (y ∷ ys) x = get_last ys x
 
-all_there : (ls : List Letter) → list_any is_absent ls ≡ false → ((i g : ℕ) → slice_get ls i ≡ Some (pending g) → ⊥) → list_all is_present ls ≡ true
+all_there : (ls : List ByteState) → list_any is_absent ls ≡ false → ((i g : ℕ) → slice_get ls i ≡ Some (pending g) → ⊥) → list_all is_present ls ≡ true
 all_there [] e n = refl
 all_there (absent ∷ ls) e n = absurd (false≢true (sym e))
 all_there (pending g ∷ ls) e n = absurd (n 0 g refl)
@@ -97,7 +97,7 @@ no_gaps s a r h good one held closed inside =
     ∙ one_total (weigh_hold r (hold_gap f)) s.holds a (Some h) None one (held_inside s a h held) held
     ∙ weigh_closed r f h closed)
 
-none_pending : (t : Tracker) → GapsFit t → t.gaps ≡ [] → (i g : ℕ) → slice_get t.letters i ≡ Some (pending g) → ⊥
+none_pending : (t : Tracker) → GapsFit t → t.gaps ≡ [] → (i g : ℕ) → slice_get t.byte_states i ≡ Some (pending g) → ⊥
 none_pending t fit none i g e =
     let o = fit.owned i g e in
     let P : List OpenGap → Type 0 = λ l. slice_get l o.0 ≡ Some o.1 in
@@ -111,19 +111,19 @@ unfailed_copied s a good one u closed =
     let cell = good.cells h.region inside in
     let t = (cell_at s h.region).region.tracker in
     let n = no_gaps s a h.region h good one u.held closed inside in
-    let ls = letters_in h.sub.start h.sub.end t.letters in
+    let ls = byte_states_in h.sub.start h.sub.end t.byte_states in
     let none : list_any is_absent ls ≡ false = elim (cases_Bool (list_any is_absent ls)) [
       | inl t ↦ absurd (false≢true (sym u.unfailed ∙ cell.ranged.marked u.place u.ticket u.there (rw (u.start, u.end) t)))
       | inr f ↦ f
     ] in
-    let all : list_all is_present ls ≡ true = all_there ls none (λ i g e. let c = cut_get h.sub.start h.sub.end i t.letters (pending g) e in none_pending t cell.tracker.gaps n c.0 g c.1) in
+    let all : list_all is_present ls ≡ true = all_there ls none (λ i g e. let c = cut_get h.sub.start h.sub.end i t.byte_states (pending g) e in none_pending t cell.tracker.gaps n c.0 g c.1) in
     rw all refl
 
 pub alone_copied : {tells : Bool} {files : ℕ → ℕ → List ℕ} (s : State) (a : ℕ) → Good tells files s → length s.holds ≡ 1 → Unfailed a s
-    → (told_hold (hold_at s a)).gap_end ≤ (told_hold (hold_at s a)).upto → take_bytes (hold_at s a) s ≡ taken.Copied
+    → (hold_view (hold_at s a)).gap_end ≤ (hold_view (hold_at s a)).upto → take_bytes (hold_at s a) s ≡ taken.Copied
 alone_copied s a good one u closed =
     let P : Option Hold → Type 0 = λ o. take_bytes o s ≡ taken.Copied in
-    let Q : Option Hold → Type 0 = λ o. (told_hold o).gap_end ≤ (told_hold o).upto in
+    let Q : Option Hold → Type 0 = λ o. (hold_view o).gap_end ≤ (hold_view o).upto in
     subst P (sym u.held) (unfailed_copied s a good one u (subst Q u.held closed))
 
 -- a piece is stored

@@ -66,14 +66,14 @@ listed_times r (l ∷ ls) e = elim (or_cases (is_in r l) (is_in r (candidates_in
 
 pub record Roomed (p q : PolicyView) : Type 0 where
   pub tags : length q.tags ≡ length p.tags
-  pub stamps : q.stamps ≡ p.stamps
+  pub last_accesses : q.last_accesses ≡ p.last_accesses
   pub delta : q.min_delta ≡ p.min_delta
   pub inside : (r : ℕ) → is_in r q.free ≡ true → r < length p.tags
 
 record Settled (rs : List ℕ) (p q : PolicyView) : Type 0 where
   tags : q.tags ≡ p.tags
   lists : q.lists ≡ p.lists
-  stamps : q.stamps ≡ p.stamps
+  last_accesses : q.last_accesses ≡ p.last_accesses
   delta : q.min_delta ≡ p.min_delta
   free : q.free ≡ p.free ++ rs
 
@@ -86,11 +86,11 @@ append_one [] y ys = refl
 append_one (x ∷ xs) y ys = ap (λ (l : List ℕ). x ∷ l) (append_one xs y ys)
 
 settled_all : (rs : List ℕ) (p : PolicyView) → Settled rs p (settle_all rs p)
-settled_all [] p = record { tags = refl; lists = refl; stamps = refl; delta = refl; free = sym (append_nil p.free) }
+settled_all [] p = record { tags = refl; lists = refl; last_accesses = refl; delta = refl; free = sym (append_nil p.free) }
 settled_all (r ∷ rs) p = let k = settled_all rs (settle r p) in record {
   tags = k.tags;
   lists = k.lists;
-  stamps = k.stamps;
+  last_accesses = k.last_accesses;
   delta = k.delta;
   free = k.free ∙ append_one p.free r rs;
 }
@@ -117,7 +117,7 @@ module _ (holds : List (Option Hold)) (p : PolicyView) (good : policy.IsGood p) 
       ]
 
   settled_room : Roomed p (settled_by holds p)
-  settled_room = record { tags = ap (λ (l : List (Option ℕ)). length l) settled_is.tags; stamps = settled_is.stamps; delta = settled_is.delta; inside = free_inside }
+  settled_room = record { tags = ap (λ (l : List (Option ℕ)). length l) settled_is.tags; last_accesses = settled_is.last_accesses; delta = settled_is.delta; inside = free_inside }
 
   evicted_room : (o : Option ℕ) → head (unheld_by holds (candidates (settled_by holds p))) ≡ o → Roomed p (evicted o (settled_by holds p))
   evicted_room None e = settled_room
@@ -128,7 +128,7 @@ module _ (holds : List (Option Hold)) (p : PolicyView) (good : policy.IsGood p) 
       let t = listed_times q p.lists (subst P settled_is.lists c) in
       record {
         tags = length-set s.tags q None ∙ settled_room.tags;
-        stamps = settled_is.stamps;
+        last_accesses = settled_is.last_accesses;
         delta = settled_is.delta;
         inside = λ r i. elim (or_cases (is_in r s.free) (is_in r (q ∷ [])) (sym (list_any-append (λ m. m == r) s.free (q ∷ [])) ∙ i)) [
           | inl j ↦ free_inside r j
@@ -188,23 +188,23 @@ room_find tag holds p e =
 
 -- ---- an access at the time of the last one changes nothing
 
-not_waited : (p : PolicyView) (r now : ℕ) → slice_index p.stamps r ≡ now → 0 < p.min_delta → waited 1 r now p ≡ false
+not_waited : (p : PolicyView) (r now : ℕ) → slice_index p.last_accesses r ≡ now → 0 < p.min_delta → waited 1 r now p ≡ false
 not_waited p r now e some = rw e (let t : nat_le (1 * p.min_delta) (now - now) ≡ false = grind (arith, nat_tests) in t)
 
 touch_stands : (o : Option ℕ) (p : PolicyView) (r now : ℕ) → waited 1 r now p ≡ false → touch_at o r now p ≡ p
 touch_stands None p r now e = refl
 touch_stands (Some f) p r now e = rw e refl
 
-touched_again : (o : Option ℕ) (p : PolicyView) (r now : ℕ) → list_of r p.lists ≡ o → 0 < p.min_delta → r < length p.stamps → touch r now (touch_at o r now p) ≡ touch_at o r now p
+touched_again : (o : Option ℕ) (p : PolicyView) (r now : ℕ) → list_of r p.lists ≡ o → 0 < p.min_delta → r < length p.last_accesses → touch r now (touch_at o r now p) ≡ touch_at o r now p
 touched_again None p r now e some inside = rw e refl
 touched_again (Some f) p r now e some inside = elim (cases_Bool (waited 1 r now p && nat_lt (f + 1) (length p.lists))) [
   | inl t ↦
-      let q : PolicyView = record p { lists = push_back (f + 1) r (unlink r p.lists); stamps = set p.stamps r now; promotions = rise p.promotions 1 } in
-      rw t (touch_stands (list_of r q.lists) q r now (not_waited q r now (get_or-set_same p.stamps r now 0 inside) some))
+      let q : PolicyView = record p { lists = push_back (f + 1) r (unlink r p.lists); last_accesses = set p.last_accesses r now; promotions = rise p.promotions 1 } in
+      rw t (touch_stands (list_of r q.lists) q r now (not_waited q r now (get_or-set_same p.last_accesses r now 0 inside) some))
   | inr n ↦ rw n (rw e (rw n refl))
 ]
 
-pub touch_again : (p : PolicyView) (r now : ℕ) → 0 < p.min_delta → r < length p.stamps → touch r now (touch r now p) ≡ touch r now p
+pub touch_again : (p : PolicyView) (r now : ℕ) → 0 < p.min_delta → r < length p.last_accesses → touch r now (touch r now p) ≡ touch r now p
 touch_again p r now some inside = touched_again (list_of r p.lists) p r now refl some inside
 
 touched_tags : (o : Option ℕ) (p : PolicyView) (r now : ℕ) → (touch_at o r now p).tags ≡ p.tags
@@ -234,8 +234,8 @@ module _ {tells : Bool} {files : ℕ → ℕ → List ℕ} (s : State) (good : G
       let k = (roomed s.holds s.policy good.policy).inside r (head_in r (make_room s).free e) in
       omega (arith, k, good.counts.tags, good.counts.cells)
 
-  stamped : (r : ℕ) → r < length s.cells → r < length s.policy.stamps
-  stamped r h = omega (arith, h, good.policy.stamps, good.counts.tags, good.counts.cells)
+  accessed : (r : ℕ) → r < length s.cells → r < length s.policy.last_accesses
+  accessed r h = omega (arith, h, good.policy.last_accesses, good.counts.tags, good.counts.cells)
 
   delta : 0 < s.config.min_delta → 0 < s.policy.min_delta
   delta h = omega (arith, h, good.counts.delta)
@@ -250,14 +250,14 @@ module _ {tells : Bool} {files : ℕ → ℕ → List ℕ} (s : State) (good : G
         let room = roomed s.holds s.policy good.policy in
         let inside = front_inside q front in
         let n : q < length p.tags = omega (arith, room.tags, inside, good.counts.tags, good.counts.cells) in
-        let m : q < length p.stamps = (let l = ap (λ (l : List ℕ). length l) room.stamps in let k = stamped q inside in omega (arith, l, k)) in
+        let m : q < length p.last_accesses = (let l = ap (λ (l : List ℕ). length l) room.last_accesses in let k = accessed q inside in omega (arith, l, k)) in
         let w = map_front q (tag_of want.key) now p in
         let P : ℕ → Type 0 = λ k. Fits mount now (record { key = want.key; region = k }) (place a (Some q) (make_room s) want now s).1 in
         let z : 0 + q ≡ q = omega arith in
         subst P same (record {
           there = live;
           mapped = find_mapped (tag_of want.key) 0 q p.tags (room_find (tag_of want.key) s.holds s.policy none) n ∙ ap (λ (k : ℕ). Some k) z;
-          touched = λ some. touch_stands (list_of q w.lists) w q now (not_waited w q now (get_or-set_same p.stamps q now 0 m) (let d = delta some in omega (arith, d, room.delta)));
+          touched = λ some. touch_stands (list_of q w.lists) w q now (not_waited w q now (get_or-set_same p.last_accesses q now 0 m) (let d = delta some in omega (arith, d, room.delta)));
         })
 
     found_fits : (o : Option ℕ) (r : ℕ) (gap : Option ByteRange) → find (tag_of want.key) s.policy ≡ o → (enter_at o a want now s).0 ≡ Held r gap
@@ -271,7 +271,7 @@ module _ {tells : Bool} {files : ℕ → ℕ → List ℕ} (s : State) (good : G
           subst P same (rw t (record {
             there = live;
             mapped = touch_find (tag_of want.key) s.policy q now ∙ found;
-            touched = λ some. touch_again s.policy q now (delta some) (stamped q (found_inside (tag_of want.key) q found));
+            touched = λ some. touch_again s.policy q now (delta some) (accessed q (found_inside (tag_of want.key) q found));
           }))
       | inr n ↦ absurd (room_held (rw n at e))
     ]

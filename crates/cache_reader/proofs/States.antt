@@ -12,7 +12,7 @@ use Rattle.region_cell.specs.declared.taken.Taken.TheVariants as taken
 use Rattle.cache_door.specs.declared.hold.Hold.{Hold}
 use Rattle.cache_door.specs.Machine.{State, hold_at, store, fail, leave, take_bytes}
 use Rattle.cache_door.specs.Good.{Good}
-use Rattle.cache_door.specs.Doors.{Told, told_hold, nothing, SameState}
+use Rattle.cache_door.specs.Doors.{HoldView, hold_view, nothing, SameState}
 use Rattle.cache_reader.specs.Reports.{Grew}
 use Rattle.cache_reader.specs.Parts.{Line}
 use Rattle.cache_reader.specs.Stored.{gap_stored}
@@ -54,9 +54,9 @@ left_by a b x y z e f g = e ∙ ap (option_map (λ (s : State). leave b (hold_at
 pub left_at : (a b : ℕ) (y z : Option State) (t : State) → z ≡ option_map (λ (s : State). leave b (hold_at s b) s) y → y ≡ Some t → b ≡ a → z ≡ Some (leave a (hold_at t a) t)
 left_at a b y z t e f g = left_by a b (Some t) y z e f g
 
-pub told_none : (o : Option Hold) → nothing ≡ told_hold o → o ≡ None
+pub told_none : (o : Option Hold) → nothing ≡ hold_view o → o ≡ None
 told_none None e = refl
-told_none (Some h) e = let k : false ≡ true = ap (λ (t : Told). t.held) e in absurd (cc)
+told_none (Some h) e = let k : false ≡ true = ap (λ (t : HoldView). t.held) e in absurd (cc)
 
 -- ---- a take
 
@@ -73,13 +73,13 @@ copies_false taken.Failed (Some s) a before mid now other answer fault le = λ t
 copies_false taken.FrameFault (Some s) a before mid now other answer fault le = λ took calm. absurd (calm (rose_first before mid now le (fault refl)))
 
 -- behind the store of its gap a hold is copied
-pub held_copies : {tells : Bool} {files : ℕ → ℕ → List ℕ} (c : Line) (a b file base : ℕ) (gap : Option ByteRange) (s : State) (told : Told) (before mid now : ℕ) (copied : Bool)
-    → Unfailed a s → length s.holds ≡ 1 → Good tells files (gap_stored c a file base gap s) → told ≡ told_hold (hold_at (gap_stored c a file base gap s) b) → b ≡ a → told.gap_end ≤ told.upto
+pub held_copies : {tells : Bool} {files : ℕ → ℕ → List ℕ} (c : Line) (a b file base : ℕ) (gap : Option ByteRange) (s : State) (told : HoldView) (before mid now : ℕ) (copied : Bool)
+    → Unfailed a s → length s.holds ≡ 1 → Good tells files (gap_stored c a file base gap s) → told ≡ hold_view (hold_at (gap_stored c a file base gap s) b) → b ≡ a → told.gap_end ≤ told.upto
     → Copies b mid now copied (gap_stored c a file base gap s) → before ≤ mid → (Rose before now → ⊥) → copied ≡ true
 held_copies c a b file base gap s told before mid now copied u one good is same closed copies le calm =
     let t = gap_stored c a file base gap s in
-    let own : told ≡ told_hold (hold_at t a) = is ∙ ap (λ n. told_hold (hold_at t n)) same in
-    let P : Told → Type 0 = λ k. k.gap_end ≤ k.upto in
+    let own : told ≡ hold_view (hold_at t a) = is ∙ ap (λ n. hold_view (hold_at t n)) same in
+    let P : HoldView → Type 0 = λ k. k.gap_end ≤ k.upto in
     let took : take_bytes (hold_at t a) t ≡ taken.Copied = gap_copied c a file base gap s u one good (subst P own closed) in
     let Q : ℕ → Type 0 = λ n. take_bytes (hold_at t n) t ≡ taken.Copied in
     copies (subst Q (sym same) took) (λ rose. calm (rose_then before mid now le rose))
@@ -88,7 +88,7 @@ pub grew_then : (a b d n : ℕ) → Grew a b n → Grew b d 0 → Grew a d n
 grew_then a b d n h k = subst (λ m. Grew a d m) (omega arith) (grew_more a b d n 0 h k)
 
 -- the wanted bytes of a hold that stayed but for its gap
-pub same_bytes : (files : ℕ → ℕ → List ℕ) (k j : Config) (h o : Told) → j ≡ k → SameHold h o
+pub same_bytes : (files : ℕ → ℕ → List ℕ) (k j : Config) (h o : HoldView) → j ≡ k → SameHold h o
     → slice_of (region_bytes files j.region o.tag) o.sub.start (o.sub.end - o.sub.start) ≡ slice_of (region_bytes files k.region h.tag) h.sub.start (h.sub.end - h.sub.start)
 same_bytes files k j h o e same =
     ap (λ (g : Config). slice_of (region_bytes files g.region o.tag) o.sub.start (o.sub.end - o.sub.start)) e

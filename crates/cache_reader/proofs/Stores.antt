@@ -6,8 +6,8 @@ use Rattle.std.proofs.lemmas.Bool.Decides.{nat_tests}
 use Rattle.std.proofs.lemmas.List.{append-nil, append_assoc, length-append, length-take, drop-drop, take_all, drop_all, take_at, drop_at, set-set, length-set, get_or-set_same, get_or_past}
 use Rattle.region_ranges.specs.declared.ranges.ByteRange.{ByteRange}
 use Rattle.sparse_tracker.specs.declared.gaps.OpenGap.{OpenGap}
-use Rattle.sparse_tracker.specs.Letters as letters
-use Rattle.sparse_tracker.specs.Letters.{Letter, absent, pending, present, Tracker, is_under, change_from, change, move_gap}
+use Rattle.sparse_tracker.specs.ByteStates as byte_states
+use Rattle.sparse_tracker.specs.ByteStates.{ByteState, absent, pending, present, Tracker, is_under, change_from, change, move_gap}
 use Rattle.sparse_tracker.specs.Weights.{total, by_gap}
 use Rattle.cache_outside.specs.Frames.{put_at}
 use Rattle.blob_parts.specs.Content.{slice_of}
@@ -17,7 +17,7 @@ use Rattle.cache_door.specs.declared.hold.Hold.{Hold}
 use Rattle.cache_door.specs.declared.answers.Entered.TheVariants.{Held}
 use Rattle.cache_door.specs.Machine.{State, Cell, cell_at, hold_at, no_cell, with_cell, with_hold, store, store_into, leave}
 use Rattle.cache_door.specs.Good.{Good, weigh_hold, hold_gap}
-use Rattle.cache_door.specs.Doors.{Told, told_hold}
+use Rattle.cache_door.specs.Doors.{HoldView, hold_view}
 use Rattle.cache_door.specs.Takes.{after}
 use Rattle.cache_reader.specs.Parts.{Line, bytes_of}
 use Rattle.cache_reader.specs.Stored.{rest_stored, gap_stored, StoredTo}
@@ -67,15 +67,15 @@ told_more : (told : Bool) (at : ℕ) (xs ys b : List ℕ)
 told_more true at xs ys b = put_more at xs ys b
 told_more false at xs ys b = refl
 
--- ---- letters: progress behind progress
+-- ---- states: progress behind progress
 
-abbrev moved_letter : ℕ → ℕ → ℕ → Letter → Letter
-moved_letter g to i l = if is_under g l && nat_lt i to then present else l
+abbrev moved_byte_state : ℕ → ℕ → ℕ → ByteState → ByteState
+moved_byte_state g to i l = if is_under g l && nat_lt i to then present else l
 
-letter_more : (g to more i : ℕ) (l : Letter) → to ≤ more → moved_letter g more i (moved_letter g to i l) ≡ moved_letter g more i l
-letter_more g to more i absent le = refl
-letter_more g to more i present le = refl
-letter_more g to more i (pending h) le = elim (cases_Bool (h == g)) [
+byte_state_more : (g to more i : ℕ) (l : ByteState) → to ≤ more → moved_byte_state g more i (moved_byte_state g to i l) ≡ moved_byte_state g more i l
+byte_state_more g to more i absent le = refl
+byte_state_more g to more i present le = refl
+byte_state_more g to more i (pending h) le = elim (cases_Bool (h == g)) [
   | inr n ↦ rw (n, n) refl
   | inl y ↦ elim (cases_lt i to) [
     | inl l ↦
@@ -86,11 +86,11 @@ letter_more g to more i (pending h) le = elim (cases_Bool (h == g)) [
   ]
 ]
 
-letters_more : (g to more i : ℕ) (ls : List Letter) → to ≤ more → change_from i (moved_letter g more) (change_from i (moved_letter g to) ls) ≡ change_from i (moved_letter g more) ls
-letters_more g to more i [] le = refl
-letters_more g to more i (l ∷ ls) le =
-    ap (λ x. x ∷ change_from (i + 1) (moved_letter g more) (change_from (i + 1) (moved_letter g to) ls)) (letter_more g to more i l le)
-    ∙ ap (λ xs. moved_letter g more i l ∷ xs) (letters_more g to more (i + 1) ls le)
+byte_states_more : (g to more i : ℕ) (ls : List ByteState) → to ≤ more → change_from i (moved_byte_state g more) (change_from i (moved_byte_state g to) ls) ≡ change_from i (moved_byte_state g more) ls
+byte_states_more g to more i [] le = refl
+byte_states_more g to more i (l ∷ ls) le =
+    ap (λ x. x ∷ change_from (i + 1) (moved_byte_state g more) (change_from (i + 1) (moved_byte_state g to) ls)) (byte_state_more g to more i l le)
+    ∙ ap (λ xs. moved_byte_state g more i l ∷ xs) (byte_states_more g to more (i + 1) ls le)
 
 -- each gap of that number ends behind `to`
 abbrev pub EndsBehind : ℕ → ℕ → List OpenGap → Type 0
@@ -107,13 +107,13 @@ gaps_more g to more (o ∷ os) h = elim (cases_Bool (o.id == g)) [
       rw (y, unmet, y) refl
 ]
 
-same_tracker : (t : Tracker) (a b : List Letter) (x y : List OpenGap) → a ≡ b → x ≡ y → let p : Tracker = record t { letters = a; gaps = x } in let q : Tracker = record t { letters = b; gaps = y } in p ≡ q
+same_tracker : (t : Tracker) (a b : List ByteState) (x y : List OpenGap) → a ≡ b → x ≡ y → let p : Tracker = record t { byte_states = a; gaps = x } in let q : Tracker = record t { byte_states = b; gaps = y } in p ≡ q
 same_tracker t a b x y e f =
-    ap (λ (l : List Letter). let p : Tracker = record t { letters = l; gaps = x } in p) e
-    ∙ ap (λ (l : List OpenGap). let p : Tracker = record t { letters = b; gaps = l } in p) f
+    ap (λ (l : List ByteState). let p : Tracker = record t { byte_states = l; gaps = x } in p) e
+    ∙ ap (λ (l : List OpenGap). let p : Tracker = record t { byte_states = b; gaps = l } in p) f
 
-pub progress_more : (g to more : ℕ) (t : Tracker) → to ≤ more → EndsBehind g to t.gaps → letters.progress g more (letters.progress g to t) ≡ letters.progress g more t
-progress_more g to more t le h = same_tracker t _ _ _ _ (letters_more g to more 0 t.letters le) (gaps_more g to more t.gaps h)
+pub progress_more : (g to more : ℕ) (t : Tracker) → to ≤ more → EndsBehind g to t.gaps → byte_states.progress g more (byte_states.progress g to t) ≡ byte_states.progress g more t
+progress_more g to more t le h = same_tracker t _ _ _ _ (byte_states_more g to more 0 t.byte_states le) (gaps_more g to more t.gaps h)
 
 -- ---- the gap of a hold is in its region's cell
 
@@ -214,7 +214,7 @@ cell_more told h xs ys x behind =
     let to = h.gap.upto + length xs in
     let n : to + length ys ≡ h.gap.upto + length (xs ++ ys) = omega (arith, length-append xs ys) in
     same_cell (stored_cell told (moved_hold to h) ys (stored_cell told h xs x)) (stored_cell told h (xs ++ ys) x) refl
-    (progress_more h.gap.id to (to + length ys) x.region.tracker (omega arith) behind ∙ ap (λ k. letters.progress h.gap.id k x.region.tracker) n)
+    (progress_more h.gap.id to (to + length ys) x.region.tracker (omega arith) behind ∙ ap (λ k. byte_states.progress h.gap.id k x.region.tracker) n)
     (told_more told h.gap.upto xs ys x.bytes)
 
 hold_more : (h : Hold) (xs ys : List ℕ) → moved_hold (h.gap.upto + length xs + length ys) (moved_hold (h.gap.upto + length xs) h) ≡ moved_hold (h.gap.upto + length (xs ++ ys)) h
@@ -287,7 +287,7 @@ pub told_of : (P : State → Type 0) (o : Option State) (s : State) → IfSome o
 told_of P o s h e = let Q : Option State → Type 0 = λ q. IfSome q P in subst Q e h
 
 -- what is told of a hold that has an open gap
-hold_of : (o : Option Hold) → (told_hold o).upto < (told_hold o).gap_end → (h : Hold) × (o ≡ Some h)
+hold_of : (o : Option Hold) → (hold_view o).upto < (hold_view o).gap_end → (h : Hold) × (o ≡ Some h)
 hold_of None h = absurd (omega (arith, h))
 hold_of (Some k) h = (k, refl)
 
@@ -300,15 +300,15 @@ rest_cut xs base from n end le =
     ∙ ap (slice_of xs (base + from)) sum
 
 -- n bytes of the file from `from` on, and then the rest, is the rest from `from` on: `told` is what is told of the actor's hold
-pub rest_more : {tells : Bool} {files : ℕ → ℕ → List ℕ} (c : Line) (a file base from n end : ℕ) (s : State) (told : Told) → Good tells files s
-    → told ≡ told_hold (hold_at s a) → told.upto ≡ from → told.gap_end ≡ end → n < end - from → base + end ≤ length (bytes_of c file)
+pub rest_more : {tells : Bool} {files : ℕ → ℕ → List ℕ} (c : Line) (a file base from n end : ℕ) (s : State) (told : HoldView) → Good tells files s
+    → told ≡ hold_view (hold_at s a) → told.upto ≡ from → told.gap_end ≡ end → n < end - from → base + end ≤ length (bytes_of c file)
     → rest_stored c a file base (from + n) end (store a (hold_at s a) (slice_of (bytes_of c file) (base + from) n) s) ≡ rest_stored c a file base from end s
 rest_more c a file base from n end s told good is starts ends less inside =
-    let upto : (told_hold (hold_at s a)).upto ≡ from = ap (λ (t : Told). t.upto) (sym is) ∙ starts in
-    let last : (told_hold (hold_at s a)).gap_end ≡ end = ap (λ (t : Told). t.gap_end) (sym is) ∙ ends in
+    let upto : (hold_view (hold_at s a)).upto ≡ from = ap (λ (t : HoldView). t.upto) (sym is) ∙ starts in
+    let last : (hold_view (hold_at s a)).gap_end ≡ end = ap (λ (t : HoldView). t.gap_end) (sym is) ∙ ends in
     let k = hold_of (hold_at s a) (omega (arith, upto, last, less)) in
-    let first : k.0.gap.upto ≡ from = sym (ap (λ o. (told_hold o).upto) k.1) ∙ upto in
-    let final : k.0.gap.end ≡ end = sym (ap (λ o. (told_hold o).gap_end) k.1) ∙ last in
+    let first : k.0.gap.upto ≡ from = sym (ap (λ o. (hold_view o).upto) k.1) ∙ upto in
+    let final : k.0.gap.end ≡ end = sym (ap (λ o. (hold_view o).gap_end) k.1) ∙ last in
     let xs = slice_of (bytes_of c file) (base + from) n in
     let ys = slice_of (bytes_of c file) (base + (from + n)) (end - (from + n)) in
     let m : length xs ≡ n = slice_length (bytes_of c file) (base + from) n (omega (arith, inside, less)) in
@@ -335,9 +335,9 @@ store_actors a None piece s = refl
 store_actors a (Some h) piece s = length-set s.holds a _
 
 -- and one piece more: `good` and `told` are those of the state before the piece
-pub stored_more : {tells : Bool} {files : ℕ → ℕ → List ℕ} (c : Line) (a file base from at n end : ℕ) (s : State) (before now : Option State) (piece : List ℕ) (told : Told)
+pub stored_more : {tells : Bool} {files : ℕ → ℕ → List ℕ} (c : Line) (a file base from at n end : ℕ) (s : State) (before now : Option State) (piece : List ℕ) (told : HoldView)
     → at < end → at + n ≤ end → base + end ≤ length (bytes_of c file) → piece ≡ slice_of (bytes_of c file) (base + at) n
-    → ((t : State) → before ≡ Some t → Good tells files t × (told ≡ told_hold (hold_at t a))) → told.upto ≡ at → told.gap_end ≡ end
+    → ((t : State) → before ≡ Some t → Good tells files t × (told ≡ hold_view (hold_at t a))) → told.upto ≡ at → told.gap_end ≡ end
     → now ≡ option_map (λ t. store a (hold_at t a) piece t) before → StoredTo c a file base from at end s before → StoredTo c a file base from (at + n) end s now
 stored_more c a file base from at n end s before now piece told less most inside is known starts ends stored h =
     let t = h.state in

@@ -2,7 +2,7 @@
 use Rattle.std.specs.Prelude.{◌≡◌, ◌≤◌, ◌+◌, ◌-◌, ℕ, Bool, true, false, IsTrue, List, length, Result, Ok, Err}
 use Rattle.blob_parts.specs.Content.{slice_of}
 use Rattle.blob_parts.specs.Takes.{Took}
-use Rattle.cache_door.specs.Doors.{Told}
+use Rattle.cache_door.specs.Doors.{HoldView}
 use Rattle.cache_reader.specs.declared.report.Report.{Report}
 use Rattle.cache_reader.specs.Reports.{Counted, fetched_bytes}
 use Rattle.cache_reader.specs.Parts.{Line, places_of}
@@ -14,7 +14,7 @@ piece_count n (Ok false) = 0
 piece_count n (Err e) = 0
 
 -- the hold behind a piece
-abbrev pub piece_hold : {E : Type 0} → ℕ → Result Bool E → Told → Told
+abbrev pub piece_hold : {E : Type 0} → ℕ → Result Bool E → HoldView → HoldView
 piece_hold n (Ok true) t = record t { upto = t.upto + n }
 piece_hold n (Ok false) t = t
 piece_hold n (Err e) t = t
@@ -41,7 +41,7 @@ pub record Whole (c : Line) (size : ℕ) (report_before report_now : Report) (x 
   pub took : IsTrue c.tells → (places : List (ℕ × ℕ)) × Took x.taken y.taken places × (length places ≡ size)
 
 -- the hold stays, but for its gap
-pub record SameHold (a b : Told) : Type 0 where
+pub record SameHold (a b : HoldView) : Type 0 where
   pub held : b.held ≡ a.held
   pub region : b.region ≡ a.region
   pub tag : b.tag ≡ a.tag

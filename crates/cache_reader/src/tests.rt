@@ -2,7 +2,7 @@
 ghost use Rattle.std.specs.Prelude.{◌≡◌, ◌<◌, ℕ, IfOk, length};
 ghost use Rattle.region_ranges.specs.Keys.{IsConfig};
 ghost use Rattle.cache_door.specs.Machine.{hold_at};
-ghost use Rattle.cache_door.specs.Doors.{told_hold, nothing};
+ghost use Rattle.cache_door.specs.Doors.{hold_view, nothing};
 ghost use Rattle.cache_door.specs.Cores.{state_of};
 
 use crate::{Reader, Report};
@@ -79,7 +79,7 @@ fn core_of_one(alloc: Global, actors: u32) -> Result<Core<Untold, MemFrame>, All
     requires { (0 < actors) × (actors < 3) }
     ensures config { IfOk result (λ c. c.config ≡ ONE) }
     ensures actors { IfOk result (λ c. length c.holds ≡ actors) }
-    ensures free { IfOk result (λ c. (a : ℕ) → told_hold (hold_at (state_of c) a) ≡ nothing) }
+    ensures free { IfOk result (λ c. (a : ℕ) → hold_view (hold_at (state_of c) a) ≡ nothing) }
 {
     let mut frames = Vec::new(alloc);
     frames.push(MemFrame::new(alloc, 4096)?)?;
@@ -89,7 +89,7 @@ fn core_of_one(alloc: Global, actors: u32) -> Result<Core<Untold, MemFrame>, All
 fn core_of_four(alloc: Global) -> Result<Core<Untold, MemFrame>, AllocError>
     ensures config { IfOk result (λ c. c.config ≡ FOUR) }
     ensures actors { IfOk result (λ c. length c.holds ≡ 1) }
-    ensures free { IfOk result (λ c. (a : ℕ) → told_hold (hold_at (state_of c) a) ≡ nothing) }
+    ensures free { IfOk result (λ c. (a : ℕ) → hold_view (hold_at (state_of c) a) ≡ nothing) }
 {
     let mut frames = Vec::new(alloc);
     frames.push(MemFrame::new(alloc, 4096)?)?;
@@ -243,10 +243,10 @@ fn occupy(
 ) -> Result<(), AllocError>
     requires config { core.old.config ≡ ONE }
     requires actors { length core.old.holds ≡ 2 }
-    requires free { (a : ℕ) → told_hold (hold_at (state_of core.old) a) ≡ nothing }
+    requires free { (a : ℕ) → hold_view (hold_at (state_of core.old) a) ≡ nothing }
     ensures config { core.new.config ≡ core.old.config }
     ensures actors { length core.new.holds ≡ length core.old.holds }
-    ensures free { told_hold (hold_at (state_of core.new) 1) ≡ nothing }
+    ensures free { hold_view (hold_at (state_of core.new) 1) ≡ nothing }
 {
     let want = Want {
         key: RegionKey {

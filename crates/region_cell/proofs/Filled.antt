@@ -8,22 +8,22 @@ use Rattle.region_ranges.specs.declared.ranges.ByteRange.{ByteRange}
 use Rattle.region_ranges.specs.Ranges.{inside}
 use Rattle.region_ranges.specs.Keys.{manifest_of}
 use Rattle.sparse_tracker.specs.declared.gaps.OpenGap.{OpenGap}
-use Rattle.sparse_tracker.specs.Letters.{Letter, absent, pending, present, is_present, is_under, change, letters_in, Tracker, open_gap, open_gap_at, claimed_run, least_unused, ids, gap_of, has_all}
+use Rattle.sparse_tracker.specs.ByteStates.{ByteState, absent, pending, present, is_present, is_under, change, byte_states_in, Tracker, open_gap, open_gap_at, claimed_run, least_unused, ids, gap_of, has_all}
 use Rattle.sparse_tracker.specs.Kept as tracker
 use Rattle.cache_outside.specs.Frames.{put_at, SameOutside}
 use Rattle.blob_parts.specs.Content.{slice_of}
 use Rattle.region_cell.specs.Cells.{Region, len_of, IsFilled, assign, claim, claim_run, progress, fail, leave, region_bytes, file_of, part_of}
-use Rattle.region_cell.proofs.Places.{slot_change, slot_map, slot_replicate, slot_find, get_drop, get_take, get_take_past, get_front, get_back, same_slice, in_from, all_gives, is_present_gives, letter_here}
+use Rattle.region_cell.proofs.Places.{slot_change, slot_map, slot_replicate, slot_find, get_drop, get_take, get_take_past, get_front, get_back, same_slice, in_from, all_gives, is_present_gives, byte_state_here}
 
 module _ (files : ℕ → ℕ → List ℕ) (size : ℕ) where
   pub filled_assign : (tag len : ℕ) (c : Region) (bytes : List ℕ) → IsFilled files size (assign tag len c) bytes
   filled_assign tag len c bytes i e = absurd (let s = slot_replicate len absent present i e in cc)
 
-  opened : (o : Option ByteRange) (c : Region) (i : ℕ) → slice_get (open_gap_at o c.tracker).letters i ≡ Some present → slice_get c.tracker.letters i ≡ Some present
+  opened : (o : Option ByteRange) (c : Region) (i : ℕ) → slice_get (open_gap_at o c.tracker).byte_states i ≡ Some present → slice_get c.tracker.byte_states i ≡ Some present
   opened None c i e = e
   opened (Some run) c i e =
       let g = least_unused (ids c.tracker.gaps) in
-      let x = slot_change (λ i l. if inside run i then pending g else l) 0 c.tracker.letters i present e in
+      let x = slot_change (λ i l. if inside run i then pending g else l) 0 c.tracker.byte_states i present e in
       elim (cases_Bool (inside run (0 + i))) [
         | inl t ↦ absurd (let w = rw t at x.2 in cc)
         | inr t ↦ let w : x.0 ≡ present = rw t at x.2 in x.1 ∙ ap Some w
@@ -34,7 +34,7 @@ module _ (files : ℕ → ℕ → List ℕ) (size : ℕ) where
 
   pub filled_fail : (g : ℕ) (c : Region) (bytes : List ℕ) → IsFilled files size c bytes → IsFilled files size (fail g c) bytes
   filled_fail g c bytes f i e =
-      let x = slot_map (λ l. if is_under g l then absent else l) c.tracker.letters i present e in
+      let x = slot_map (λ l. if is_under g l then absent else l) c.tracker.byte_states i present e in
       elim (cases_Bool (is_under g x.0)) [
         | inl t ↦ absurd (let w = rw t at x.2 in cc)
         | inr t ↦ let w : x.0 ≡ present = rw t at x.2 in f i (x.1 ∙ ap Some w)
@@ -95,11 +95,11 @@ module _ (g : ℕ) (t : Tracker) (good : tracker.IsGood t) (o : OpenGap) (is : g
   named : o.id ≡ g
   named = let h = here in grind (arith, nat_tests)
 
-  pub gap_bounds : (o.upto < o.end) × (o.end ≤ length t.letters)
+  pub gap_bounds : (o.upto < o.end) × (o.end ≤ length t.byte_states)
   gap_bounds = good.gaps.bounds here.0 o here.1
 
-  -- a letter pending under it lies in it
-  pub under_lies : (i : ℕ) (l : Letter) → slice_get t.letters i ≡ Some l → is_under g l ≡ true → (o.upto ≤ i) × (i < o.end)
+  -- a state pending under it lies in it
+  pub under_lies : (i : ℕ) (l : ByteState) → slice_get t.byte_states i ≡ Some l → is_under g l ≡ true → (o.upto ≤ i) × (i < o.end)
   under_lies i absent e u = absurd (cc)
   under_lies i present e u = absurd (cc)
   under_lies i (pending h) e u =
@@ -112,9 +112,9 @@ module _ (g : ℕ) (t : Tracker) (good : tracker.IsGood t) (o : OpenGap) (is : g
       let ends : o.end ≡ w.1.end = ap (λ (x : OpenGap). x.end) k in
       (omega (arith, w.4, begins), omega (arith, w.5, ends))
 
-  -- and a present letter does not
-  pub present_lies : (i : ℕ) → slice_get t.letters i ≡ Some present → o.upto ≤ i → i < o.end → ⊥
-  present_lies i e a b = let w : Some (pending o.id) ≡ Some present = sym (good.gaps.letters here.0 o i here.1 a b) ∙ e in cc
+  -- and a present state does not
+  pub present_lies : (i : ℕ) → slice_get t.byte_states i ≡ Some present → o.upto ≤ i → i < o.end → ⊥
+  present_lies i e a b = let w : Some (pending o.id) ≡ Some present = sym (good.gaps.byte_states here.0 o i here.1 a b) ∙ e in cc
 
 -- bytes that are not there yet do not matter
 pub filled_as_outside : (files : ℕ → ℕ → List ℕ) (size g n : ℕ) (o : OpenGap) (c : Region) (before now : List ℕ) → tracker.IsGood c.tracker → gap_of g c.tracker ≡ Some o → o.upto + n ≤ o.end → SameOutside o.upto n before now → IsFilled files size c before → IsFilled files size c now
@@ -151,7 +151,7 @@ module _ (files : ℕ → ℕ → List ℕ) (size g : ℕ) (c : Region) (bytes p
       let b = gap_bounds g c.tracker good o is in
       let low : o.upto ≤ length bytes = omega (arith, b) in
       let to = o.upto + length piece in
-      let x = slot_change (λ i l. if is_under g l && nat_lt i to then present else l) 0 c.tracker.letters i present e in
+      let x = slot_change (λ i l. if is_under g l && nat_lt i to then present else l) 0 c.tracker.byte_states i present e in
       let z : 0 + i ≡ i = omega arith in
       let y : (if is_under g x.0 && nat_lt i to then present else x.0) ≡ present = ap (λ (n : ℕ). if is_under g x.0 && nat_lt n to then present else x.0) (sym z) ∙ x.2 in
       elim (cases_Bool (is_under g x.0 && nat_lt i to)) [
@@ -160,10 +160,10 @@ module _ (files : ℕ → ℕ → List ℕ) (size g : ℕ) (c : Region) (bytes p
             let l : nat_lt i to ≡ true = grind arith in
             let under = under_lies g c.tracker good o is i x.0 x.1 u in
             let less : i < to = grind (arith, nat_tests) in
-            stored i low short right under.0 less (slice_get_within c.tracker.letters i x.0 x.1)
+            stored i low short right under.0 less (slice_get_within c.tracker.byte_states i x.0 x.1)
         | inr t ↦
             let w : x.0 ≡ present = rw t at y in
-            let p : slice_get c.tracker.letters i ≡ Some present = x.1 ∙ ap Some w in
+            let p : slice_get c.tracker.byte_states i ≡ Some present = x.1 ∙ ap Some w in
             elim (cases_lt i o.upto) [
               | inl l ↦ put_before o.upto piece bytes low i l ∙ f i p
               | inr l ↦ elim (cases_lt i to) [
@@ -178,10 +178,10 @@ module _ (files : ℕ → ℕ → List ℕ) (size g : ℕ) (c : Region) (bytes p
 
 -- ---- reading present bytes
 
-pub all_present : (sub : ByteRange) (c : Region) (i : ℕ) → has_all sub c.tracker ≡ true → sub.end ≤ len_of c → sub.start ≤ i → i < sub.end → slice_get c.tracker.letters i ≡ Some present
+pub all_present : (sub : ByteRange) (c : Region) (i : ℕ) → has_all sub c.tracker ≡ true → sub.end ≤ len_of c → sub.start ≤ i → i < sub.end → slice_get c.tracker.byte_states i ≡ Some present
 all_present sub c i h m a b =
-    let x = letter_here c.tracker.letters i (omega arith) in
-    let p = all_gives is_present (letters_in sub.start sub.end c.tracker.letters) (i - sub.start) x.0 h (in_from c.tracker.letters sub.start sub.end i x.0 a b x.1) in
+    let x = byte_state_here c.tracker.byte_states i (omega arith) in
+    let p = all_gives is_present (byte_states_in sub.start sub.end c.tracker.byte_states) (i - sub.start) x.0 h (in_from c.tracker.byte_states sub.start sub.end i x.0 a b x.1) in
     x.1 ∙ ap Some (is_present_gives x.0 p)
 
 pub read_filled : (files : ℕ → ℕ → List ℕ) (size : ℕ) (c : Region) (bytes : List ℕ) (sub : ByteRange) → IsFilled files size c bytes → has_all sub c.tracker ≡ true → sub.start ≤ sub.end → sub.end ≤ len_of c → slice_of bytes sub.start (sub.end - sub.start) ≡ slice_of (region_bytes files size c.tag) sub.start (sub.end - sub.start)

@@ -9,32 +9,32 @@ use Rattle.region_ranges.specs.Keys.{manifest_of}
 use Rattle.sparse_tracker.specs.declared.gaps.OpenGap.{OpenGap}
 use Rattle.sparse_tracker.specs.declared.tickets.Ticket.{Ticket}
 use Rattle.sparse_tracker.specs.declared.status.Status.TheVariants.{Ready}
-use Rattle.sparse_tracker.specs.Letters.{Letter, absent, pending, present, is_under, change, Tracker, TrackerView, open_gap_at, gap_of, ticket_of, has_all, least_unused, ids}
+use Rattle.sparse_tracker.specs.ByteStates.{ByteState, absent, pending, present, is_under, change, Tracker, TrackerView, open_gap_at, gap_of, ticket_of, has_all, least_unused, ids}
 use Rattle.sparse_tracker.specs.Kept as tracker
 use Rattle.sparse_tracker.specs.Places.{ClaimPlaces}
 use Rattle.cache_outside.specs.Frames.{put_at, bytes_at, SameOutside}
 use Rattle.blob_parts.specs.Content.{slice_of}
 use Rattle.blob_parts.specs.Pieces.{PieceView}
-use Rattle.region_cell.specs.Cells.{Region, FrameNote, Note, CellView, len_of, IsRanged, IsFilled, IsWhole, IsSized, IsKept, FitsGap, LiesInRange, claim, claim_run, progress, fail, leave, with_region, with_frame, file_of, part_of, region_bytes}
+use Rattle.region_cell.specs.Cells.{Region, FrameMetadata, CellMetadata, CellView, len_of, IsRanged, IsFilled, IsWhole, IsSized, IsKept, FitsGap, LiesInRange, claim, claim_run, progress, fail, leave, with_region, with_frame, file_of, part_of, region_bytes}
 use Rattle.region_cell.proofs.Places.{length_change}
 use Rattle.region_cell.proofs.Ranged.{ranged_claim, ranged_progress, ranged_fail, ranged_leave}
 use Rattle.region_cell.proofs.Statuses.{Waits, Held, ready_is}
 use Rattle.region_cell.proofs.Filled.{filled_claim, filled_fail, filled_leave, filled_progress, filled_outside, gap_bounds, read_filled}
 
--- ---- no call but a new key changes the number of letters
+-- ---- no call but a new key changes the number of states
 
-pub len_opened : (o : Option ByteRange) (t : Tracker) → length (open_gap_at o t).letters ≡ length t.letters
+pub len_opened : (o : Option ByteRange) (t : Tracker) → length (open_gap_at o t).byte_states ≡ length t.byte_states
 len_opened None t = refl
-len_opened (Some run) t = let g = least_unused (ids t.gaps) in length_change (λ i l. if inside run i then pending g else l) 0 t.letters
+len_opened (Some run) t = let g = least_unused (ids t.gaps) in length_change (λ i l. if inside run i then pending g else l) 0 t.byte_states
 
 pub len_claim : (range : ℕ) (sub : ByteRange) (c : Region) → len_of (claim range sub c) ≡ len_of c
 len_claim range sub c = len_opened (claim_run range sub c) c.tracker
 
 pub len_progress : (g to : ℕ) (c : Region) → len_of (progress g to c) ≡ len_of c
-len_progress g to c = length_change (λ i l. if is_under g l && nat_lt i to then present else l) 0 c.tracker.letters
+len_progress g to c = length_change (λ i l. if is_under g l && nat_lt i to then present else l) 0 c.tracker.byte_states
 
 pub len_fail : (g : ℕ) (c : Region) → len_of (fail g c) ≡ len_of c
-len_fail g c = length-map c.tracker.letters (λ l. if is_under g l then absent else l)
+len_fail g c = length-map c.tracker.byte_states (λ l. if is_under g l then absent else l)
 
 -- ---- calls that leave the frame
 
@@ -43,30 +43,30 @@ pub kept_spare : (told : Bool) (files : ℕ → ℕ → List ℕ) (c : CellView)
 kept_spare told files c n k = record { sized = k.sized; ranged = k.ranged; whole = k.whole; filled = k.filled }
 
 module _ (told : Bool) (files : ℕ → ℕ → List ℕ) (c : CellView) (k : IsKept told files c) where
-  kept : (r : Region) → r.tag ≡ c.note.region.tag → len_of r ≡ len_of c.note.region → IsRanged c.note.range r → (IsTrue told → IsTrue c.note.frame.tells → IsFilled files c.note.frame.size r c.bytes) → IsKept told files (with_region r c)
+  kept : (r : Region) → r.tag ≡ c.metadata.region.tag → len_of r ≡ len_of c.metadata.region → IsRanged c.metadata.range r → (IsTrue told → IsTrue c.metadata.frame.tells → IsFilled files c.metadata.frame.size r c.bytes) → IsKept told files (with_region r c)
   kept r t l o f = record {
     sized = record { range = k.sized.range; divides = k.sized.divides; size = k.sized.size; len = omega (arith, l, k.sized.len) };
     ranged = o;
-    whole = λ h n. (l ∙ k.whole h (λ e. n (t ∙ e)) ∙ ap (λ (x : ℕ). length (region_bytes files c.note.frame.size x)) (sym t));
+    whole = λ h n. (l ∙ k.whole h (λ e. n (t ∙ e)) ∙ ap (λ (x : ℕ). length (region_bytes files c.metadata.frame.size x)) (sym t));
     filled = f;
   }
 
-  pub kept_claim : (sub : ByteRange) → ClaimPlaces → LiesInRange sub c.note → IsKept told files (with_region (claim c.note.range sub c.note.region) c)
+  pub kept_claim : (sub : ByteRange) → ClaimPlaces → LiesInRange sub c.metadata → IsKept told files (with_region (claim c.metadata.range sub c.metadata.region) c)
   kept_claim sub places lies =
-      kept (claim c.note.range sub c.note.region) refl (len_claim c.note.range sub c.note.region)
-      (ranged_claim c.note.range sub c.note.region places k.sized.range k.ranged lies.0 lies.1 lies.2)
-      (λ h n. filled_claim files c.note.frame.size c.note.range sub c.note.region c.bytes (k.filled h n))
+      kept (claim c.metadata.range sub c.metadata.region) refl (len_claim c.metadata.range sub c.metadata.region)
+      (ranged_claim c.metadata.range sub c.metadata.region places k.sized.range k.ranged lies.0 lies.1 lies.2)
+      (λ h n. filled_claim files c.metadata.frame.size c.metadata.range sub c.metadata.region c.bytes (k.filled h n))
 
-  pub kept_fail : (g : ℕ) → IsKept told files (with_region (fail g c.note.region) c)
-  kept_fail g = kept (fail g c.note.region) refl (len_fail g c.note.region) (ranged_fail c.note.range g c.note.region k.ranged) (λ h n. filled_fail files c.note.frame.size g c.note.region c.bytes (k.filled h n))
+  pub kept_fail : (g : ℕ) → IsKept told files (with_region (fail g c.metadata.region) c)
+  kept_fail g = kept (fail g c.metadata.region) refl (len_fail g c.metadata.region) (ranged_fail c.metadata.range g c.metadata.region k.ranged) (λ h n. filled_fail files c.metadata.frame.size g c.metadata.region c.bytes (k.filled h n))
 
-  pub kept_leave : (n : ℕ) → IsKept told files (with_region (leave n c.note.region) c)
-  kept_leave n = kept (leave n c.note.region) refl refl (ranged_leave c.note.range n c.note.region k.ranged) (λ h m. filled_leave files c.note.frame.size n c.note.region c.bytes (k.filled h m))
+  pub kept_leave : (n : ℕ) → IsKept told files (with_region (leave n c.metadata.region) c)
+  kept_leave n = kept (leave n c.metadata.region) refl refl (ranged_leave c.metadata.range n c.metadata.region k.ranged) (λ h m. filled_leave files c.metadata.frame.size n c.metadata.region c.bytes (k.filled h m))
 
 -- the bytes of a sub-range that is present
-pub read_kept : (told : Bool) (files : ℕ → ℕ → List ℕ) (c : CellView) (k : IsKept told files c) (sub : ByteRange) → sub.start < sub.end → sub.end ≤ len_of c.note.region → has_all sub c.note.region.tracker ≡ true → IsTrue told → IsTrue c.note.frame.tells
-    → slice_of c.bytes sub.start (sub.end - sub.start) ≡ slice_of (region_bytes files c.note.frame.size c.note.region.tag) sub.start (sub.end - sub.start)
-read_kept told files c k sub o m all h n = read_filled files c.note.frame.size c.note.region c.bytes sub (k.filled h n) all (omega arith) m
+pub read_kept : (told : Bool) (files : ℕ → ℕ → List ℕ) (c : CellView) (k : IsKept told files c) (sub : ByteRange) → sub.start < sub.end → sub.end ≤ len_of c.metadata.region → has_all sub c.metadata.region.tracker ≡ true → IsTrue told → IsTrue c.metadata.frame.tells
+    → slice_of c.bytes sub.start (sub.end - sub.start) ≡ slice_of (region_bytes files c.metadata.frame.size c.metadata.region.tag) sub.start (sub.end - sub.start)
+read_kept told files c k sub o m all h n = read_filled files c.metadata.frame.size c.metadata.region c.bytes sub (k.filled h n) all (omega arith) m
 
 pub outside_as : (a b n m : ℕ) (before now : List ℕ) → a ≡ b → n ≡ m → SameOutside a n before now → SameOutside b m before now
 outside_as a b n m before now e f s = subst (λ (x : ℕ). SameOutside x m before now) e (subst (λ (x : ℕ). SameOutside a x before now) f s)
@@ -110,20 +110,20 @@ place_is part size upto at h e =
 
 -- where the code puts a piece: at the gap's present end, inside the frame
 pub record Put (c : CellView) (gap place size : ℕ) (bytes : List ℕ) (p : PieceView) : Type 0 where
-  pub fit : Fitting c.note.region.tracker gap c.note.frame.size c.note.region.tag p
+  pub fit : Fitting c.metadata.region.tracker gap c.metadata.frame.size c.metadata.region.tag p
   pub at : place % size ≡ fit.gap_open.upto
   pub room : fit.gap_open.upto + length bytes ≤ fit.gap_open.end
-  pub most : fit.gap_open.end ≤ c.note.frame.size
-  pub small : c.note.frame.size < 16777217
+  pub most : fit.gap_open.end ≤ c.metadata.frame.size
+  pub small : c.metadata.frame.size < 16777217
 
-pub put_of : (told : Bool) (files : ℕ → ℕ → List ℕ) (c : CellView) (gap place size : ℕ) (bytes : List ℕ) (p : PieceView) → IsKept told files c → tracker.IsGood c.note.region.tracker
-    → IsSome (gap_of gap c.note.region.tracker) → IfSome (gap_of gap c.note.region.tracker) (λ g. FitsGap c.note.frame.size c.note.region.tag g p)
-    → place ≡ p.at → c.note.frame.size ≡ size → bytes ≡ p.bytes → Put c gap place size bytes p
+pub put_of : (told : Bool) (files : ℕ → ℕ → List ℕ) (c : CellView) (gap place size : ℕ) (bytes : List ℕ) (p : PieceView) → IsKept told files c → tracker.IsGood c.metadata.region.tracker
+    → IsSome (gap_of gap c.metadata.region.tracker) → IfSome (gap_of gap c.metadata.region.tracker) (λ g. FitsGap c.metadata.frame.size c.metadata.region.tag g p)
+    → place ≡ p.at → c.metadata.frame.size ≡ size → bytes ≡ p.bytes → Put c gap place size bytes p
 put_of told files c gap place size bytes p k good some fits at s e =
-    let x = fitting c.note.region.tracker gap c.note.frame.size c.note.region.tag p (gap_of gap c.note.region.tracker) refl some fits in
-    let b = gap_bounds gap c.note.region.tracker good x.gap_open x.is in
+    let x = fitting c.metadata.region.tracker gap c.metadata.frame.size c.metadata.region.tag p (gap_of gap c.metadata.region.tracker) refl some fits in
+    let b = gap_bounds gap c.metadata.region.tracker good x.gap_open x.is in
     let l : length bytes ≡ length p.bytes = ap length e in
-    let w = place_is (part_of c.note.region.tag) c.note.frame.size x.gap_open.upto place (omega (arith, b, k.sized.len)) (at ∙ x.fits.at) in
+    let w = place_is (part_of c.metadata.region.tag) c.metadata.frame.size x.gap_open.upto place (omega (arith, b, k.sized.len)) (at ∙ x.fits.at) in
     record {
       fit = x;
       at = ap (λ (n : ℕ). place % n) (sym s) ∙ w;
@@ -141,60 +141,60 @@ right_bytes files size tag g p f e =
 
 -- ---- a store
 
-module _ (told : Bool) (files : ℕ → ℕ → List ℕ) (c : CellView) (k : IsKept told files c) (good : tracker.IsGood c.note.region.tracker) (gap : ℕ) (p : PieceView)
-    (x : Fitting c.note.region.tracker gap c.note.frame.size c.note.region.tag p)
-    (frame : FrameNote) (bytes : List ℕ) (size : frame.size ≡ c.note.frame.size) (tells : frame.tells ≡ c.note.frame.tells) (held : IsTrue c.note.frame.tells → length c.bytes ≡ c.note.frame.size) where
-  telling : IsTrue frame.tells → IsTrue c.note.frame.tells
+module _ (told : Bool) (files : ℕ → ℕ → List ℕ) (c : CellView) (k : IsKept told files c) (good : tracker.IsGood c.metadata.region.tracker) (gap : ℕ) (p : PieceView)
+    (x : Fitting c.metadata.region.tracker gap c.metadata.frame.size c.metadata.region.tag p)
+    (frame : FrameMetadata) (bytes : List ℕ) (size : frame.size ≡ c.metadata.frame.size) (tells : frame.tells ≡ c.metadata.frame.tells) (held : IsTrue c.metadata.frame.tells → length c.bytes ≡ c.metadata.frame.size) where
+  telling : IsTrue frame.tells → IsTrue c.metadata.frame.tells
   telling h = subst IsTrue tells h
 
-  sized_as : (n : Note) → n.range ≡ c.note.range → n.frame.size ≡ c.note.frame.size → len_of n.region ≡ len_of c.note.region → IsSized n
+  sized_as : (n : CellMetadata) → n.range ≡ c.metadata.range → n.frame.size ≡ c.metadata.frame.size → len_of n.region ≡ len_of c.metadata.region → IsSized n
   sized_as n r s l = record {
     range = omega (arith, r, k.sized.range);
-    divides = subst (λ (x : ℕ). n.frame.size % x ≡ 0) (sym r) (subst (λ (x : ℕ). x % c.note.range ≡ 0) (sym s) k.sized.divides);
+    divides = subst (λ (x : ℕ). n.frame.size % x ≡ 0) (sym r) (subst (λ (x : ℕ). x % c.metadata.range ≡ 0) (sym s) k.sized.divides);
     size = (omega (arith, s, k.sized.size), omega (arith, s, k.sized.size));
     len = omega (arith, s, l, k.sized.len);
   }
 
-  pub kept_stored : (IsTrue told → p.bytes ≡ slice_of (files p.manifest p.file) p.at (length p.bytes)) → (IsTrue c.note.frame.tells → bytes ≡ put_at x.gap_open.upto p.bytes c.bytes)
-      → IsKept told files (record { note = record { region = progress gap (x.gap_open.upto + length p.bytes) c.note.region; frame = frame; range = c.note.range }; bytes = bytes; spare = c.spare })
+  pub kept_stored : (IsTrue told → p.bytes ≡ slice_of (files p.manifest p.file) p.at (length p.bytes)) → (IsTrue c.metadata.frame.tells → bytes ≡ put_at x.gap_open.upto p.bytes c.bytes)
+      → IsKept told files (record { metadata = record { region = progress gap (x.gap_open.upto + length p.bytes) c.metadata.region; frame = frame; range = c.metadata.range }; bytes = bytes; spare = c.spare })
   kept_stored right put =
       let o = x.gap_open in
-      let r = progress gap (o.upto + length p.bytes) c.note.region in
-      let l = len_progress gap (o.upto + length p.bytes) c.note.region in
+      let r = progress gap (o.upto + length p.bytes) c.metadata.region in
+      let l = len_progress gap (o.upto + length p.bytes) c.metadata.region in
       record {
         sized = sized_as _ refl size l;
-        ranged = ranged_progress c.note.range gap (o.upto + length p.bytes) c.note.region k.ranged;
-        whole = λ h n. (l ∙ k.whole h n ∙ ap (λ (s : ℕ). length (region_bytes files s c.note.region.tag)) (sym size));
+        ranged = ranged_progress c.metadata.range gap (o.upto + length p.bytes) c.metadata.region k.ranged;
+        whole = λ h n. (l ∙ k.whole h n ∙ ap (λ (s : ℕ). length (region_bytes files s c.metadata.region.tag)) (sym size));
         filled = λ h n.
             let m = telling n in
             let long = held m in
-            let f = filled_progress files c.note.frame.size gap c.note.region c.bytes p.bytes good o x.is (k.filled h m) x.fits.inside (omega (arith, long, k.sized.len)) k.sized.len (right_bytes files c.note.frame.size c.note.region.tag o p x.fits (right h)) in
+            let f = filled_progress files c.metadata.frame.size gap c.metadata.region c.bytes p.bytes good o x.is (k.filled h m) x.fits.inside (omega (arith, long, k.sized.len)) k.sized.len (right_bytes files c.metadata.frame.size c.metadata.region.tag o p x.fits (right h)) in
             rw (size, put m) f;
       }
 
-  pub kept_unstored : (IsTrue c.note.frame.tells → SameOutside x.gap_open.upto (length p.bytes) c.bytes bytes) → IsKept told files (record { note = record { region = c.note.region; frame = frame; range = c.note.range }; bytes = bytes; spare = c.spare })
+  pub kept_unstored : (IsTrue c.metadata.frame.tells → SameOutside x.gap_open.upto (length p.bytes) c.bytes bytes) → IsKept told files (record { metadata = record { region = c.metadata.region; frame = frame; range = c.metadata.range }; bytes = bytes; spare = c.spare })
   kept_unstored outside = record {
     sized = sized_as _ refl size refl;
     ranged = k.ranged;
-    whole = λ h n. (k.whole h n ∙ ap (λ (s : ℕ). length (region_bytes files s c.note.region.tag)) (sym size));
+    whole = λ h n. (k.whole h n ∙ ap (λ (s : ℕ). length (region_bytes files s c.metadata.region.tag)) (sym size));
     filled = λ h n.
         let m = telling n in
-        let f = filled_outside files c.note.frame.size gap c.note.region c.bytes p.bytes good x.gap_open x.is (k.filled h m) x.fits.inside bytes (outside m) in
+        let f = filled_outside files c.metadata.frame.size gap c.metadata.region c.bytes p.bytes good x.gap_open x.is (k.filled h m) x.fits.inside bytes (outside m) in
         rw size f;
   }
 
 -- ---- a copy
 
-pub copied : (told : Bool) (files : ℕ → ℕ → List ℕ) (c : CellView) (k : IsKept told files c) (n len : ℕ) (sub : ByteRange) (out : List ℕ) → Waits c.note.range c.note.region n sub → Held n c.note.region.tracker Ready
-    → IfSome (ticket_of n c.note.region.tracker) (λ t. len ≡ t.end - t.start) → IsTrue told → IsTrue c.note.frame.tells → out ≡ bytes_at sub.start len c.bytes
-    → IfSome (ticket_of n c.note.region.tracker) (λ t. out ≡ slice_of (region_bytes files c.note.frame.size c.note.region.tag) t.start (t.end - t.start))
+pub copied : (told : Bool) (files : ℕ → ℕ → List ℕ) (c : CellView) (k : IsKept told files c) (n len : ℕ) (sub : ByteRange) (out : List ℕ) → Waits c.metadata.range c.metadata.region n sub → Held n c.metadata.region.tracker Ready
+    → IfSome (ticket_of n c.metadata.region.tracker) (λ t. len ≡ t.end - t.start) → IsTrue told → IsTrue c.metadata.frame.tells → out ≡ bytes_at sub.start len c.bytes
+    → IfSome (ticket_of n c.metadata.region.tracker) (λ t. out ≡ slice_of (region_bytes files c.metadata.frame.size c.metadata.region.tag) t.start (t.end - t.start))
 copied told files c k n len sub out w s l h m e =
     let one : Some w.ticket ≡ Some s.ticket = sym w.is ∙ s.is in
     let same : w.ticket ≡ s.ticket = cc in
-    let ready = ready_is s.ticket c.note.region.tracker s.state in
-    let all : has_all (record { start = w.ticket.start; end = w.ticket.end }) c.note.region.tracker ≡ true = ap (λ (t : Ticket). has_all (record { start = t.start; end = t.end }) c.note.region.tracker) same ∙ ready in
+    let ready = ready_is s.ticket c.metadata.region.tracker s.state in
+    let all : has_all (record { start = w.ticket.start; end = w.ticket.end }) c.metadata.region.tracker ≡ true = ap (λ (t : Ticket). has_all (record { start = t.start; end = t.end }) c.metadata.region.tracker) same ∙ ready in
     let wide : len ≡ w.ticket.end - w.ticket.start = rw w.is at l in
     let f = read_kept told files c k (record { start = w.ticket.start; end = w.ticket.end }) (omega (arith, w.some, w.begins, w.ends)) (omega (arith, w.most, w.ends)) all h m in
-    let here : out ≡ slice_of (region_bytes files c.note.frame.size c.note.region.tag) w.ticket.start (w.ticket.end - w.ticket.start) =
+    let here : out ≡ slice_of (region_bytes files c.metadata.frame.size c.metadata.region.tag) w.ticket.start (w.ticket.end - w.ticket.start) =
     e ∙ ap (λ (a : ℕ). bytes_at a len c.bytes) (sym w.begins) ∙ ap (λ (a : ℕ). bytes_at w.ticket.start a c.bytes) wide ∙ f in
     rw w.is here

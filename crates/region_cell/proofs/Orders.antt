@@ -1,4 +1,4 @@
--- Each call keeps the order of letters in each aligned range.
+-- Each call keeps the order of states in each aligned range.
 use Rattle.std.proofs.Common.{arith, ◌≡◌, ◌≢◌, ◌<◌, ◌≤◌, ◌+◌, ◌-◌, ◌*◌, ◌/◌, ℕ, Bool, true, false, List, length, sym, ◌∙◌, ap, inl, inr, refl, Some}
 use Rattle.std.specs.Prelude.{◌⊎◌, ◌&&◌, if◌then◌else◌, nat_lt, nat_le, min, map, slice_get, replicate}
 use Rattle.std.proofs.lemmas.Bool.{cases_lt, cases_Bool, cases_eq}
@@ -8,10 +8,10 @@ use Rattle.std.proofs.lemmas.Nat.{div-mul-add}
 use Rattle.std.proofs.lemmas.Option.{slice_get_within}
 use Rattle.region_ranges.specs.declared.ranges.ByteRange.{ByteRange}
 use Rattle.region_ranges.specs.Ranges.{inside, aligned}
-use Rattle.sparse_tracker.specs.Letters.{Letter, absent, pending, present, is_under, change}
+use Rattle.sparse_tracker.specs.ByteStates.{ByteState, absent, pending, present, is_under, change}
 use Rattle.sparse_tracker.specs.Places.{IsRunRound}
 use Rattle.region_cell.specs.Cells.{InOrder}
-use Rattle.region_cell.proofs.Places.{slot_change, slot_map, slot_replicate, letter_here}
+use Rattle.region_cell.proofs.Places.{slot_change, slot_map, slot_replicate, byte_state_here}
 
 -- ---- division
 
@@ -25,7 +25,7 @@ part_gives i range k h e =
 pub part_is : (i range k : ℕ) → k * range ≤ i → i < k * range + range → i / range ≡ k
 part_is i range k a b = let e : k * range + (i - k * range) ≡ i = omega arith in ap (λ (x : ℕ). x / range) (sym e) ∙ div-mul-add k range (i - k * range) (omega arith)
 
--- ---- new letters, progress and failure
+-- ---- new states, progress and failure
 
 pub order_new : (range len : ℕ) → InOrder range (replicate len absent)
 order_new range len i j a b l e f h =
@@ -33,8 +33,8 @@ order_new range len i j a b l e f h =
     let y = slot_replicate len absent b j f in
     inr (sym y ∙ x)
 
--- letters that are each turned into another, where a present one stays
-pub order_map : (range : ℕ) (f : Letter → Letter) (ls : List Letter) → f present ≡ present → InOrder range ls → InOrder range (map f ls)
+-- states that are each turned into another, where a present one stays
+pub order_map : (range : ℕ) (f : ByteState → ByteState) (ls : List ByteState) → f present ≡ present → InOrder range ls → InOrder range (map f ls)
 order_map range f ls p old i j a b l e k h =
     let x = slot_map f ls i a e in
     let y = slot_map f ls j b k in
@@ -43,9 +43,9 @@ order_map range f ls p old i j a b l e k h =
       | inr q ↦ inr (sym y.2 ∙ ap f q ∙ x.2)
     ]
 
-pub order_progress : (range g to : ℕ) (ls : List Letter) → InOrder range ls → InOrder range (change (λ i l. if is_under g l && nat_lt i to then present else l) ls)
+pub order_progress : (range g to : ℕ) (ls : List ByteState) → InOrder range ls → InOrder range (change (λ i l. if is_under g l && nat_lt i to then present else l) ls)
 order_progress range g to ls old i j a b l e k h =
-    let f : ℕ → Letter → Letter = λ n z. if is_under g z && nat_lt n to then present else z in
+    let f : ℕ → ByteState → ByteState = λ n z. if is_under g z && nat_lt n to then present else z in
     let zi : 0 + i ≡ i = omega arith in
     let zj : 0 + j ≡ j = omega arith in
     let x = slot_change f 0 ls i a e in
@@ -83,7 +83,7 @@ in_is r i h k = grind (arith, nat_tests)
 pub in_gives : (r : ByteRange) (i : ℕ) → inside r i ≡ true → (r.start ≤ i) × (i < r.end)
 in_gives r i h = (grind (arith, nat_tests), grind (arith, nat_tests))
 
-module _ (range start g at : ℕ) (ls : List Letter) (run : ByteRange) (some : 0 < range) (old : InOrder range ls)
+module _ (range start g at : ℕ) (ls : List ByteState) (run : ByteRange) (some : 0 < range) (old : InOrder range ls)
     (round : IsRunRound ls (aligned start range (length ls)) at run) where
   part : ℕ
   part = start / range
@@ -114,7 +114,7 @@ module _ (range start g at : ℕ) (ls : List Letter) (run : ByteRange) (some : 0
         let p = part_gives j range (start / range) some e in
         let m : run.end / range ≡ start / range = within run.end (omega (arith, round.within)) (omega (arith, p)) in
         let behind : run.end < length ls = omega arith in
-        let x = letter_here ls run.end behind in
+        let x = byte_state_here ls run.end behind in
         absurd (elim (old run.start run.end absent x.0 first (round.absent_all run.start (omega arith) first) x.1 (s ∙ sym m)) [
           | inl q ↦ cc
           | inr q ↦ round.right (high run.end behind m) (x.1 ∙ ap Some q)
@@ -122,7 +122,7 @@ module _ (range start g at : ℕ) (ls : List Letter) (run : ByteRange) (some : 0
   ]
 
   -- and all before it in that range is present
-  before : (i : ℕ) (a : Letter) → i < run.start → slice_get ls i ≡ Some a → i / range ≡ start / range → a ≡ present
+  before : (i : ℕ) (a : ByteState) → i < run.start → slice_get ls i ≡ Some a → i / range ≡ start / range → a ≡ present
   before i a h f e =
       let first : run.start < run.end = omega (arith, round.within) in
       let s = here run.start (omega arith) first in
@@ -137,7 +137,7 @@ module _ (range start g at : ℕ) (ls : List Letter) (run : ByteRange) (some : 0
             absurd (elim (cases_lt i (run.start - 1)) [
               | inl l ↦
                   let inner : run.start - 1 < length ls = omega (arith, most) in
-                  let x = letter_here ls (run.start - 1) inner in
+                  let x = byte_state_here ls (run.start - 1) inner in
                   elim (old i (run.start - 1) a x.0 l f x.1 (e ∙ sym m)) [
                     | inl y ↦ cc
                     | inr y ↦ round.left (run.start - 1) floor back (x.1 ∙ ap Some (y ∙ sym q))
@@ -148,7 +148,7 @@ module _ (range start g at : ℕ) (ls : List Letter) (run : ByteRange) (some : 0
 
   pub order_claim : InOrder range (change (λ i l. if inside run i then pending g else l) ls)
   order_claim i j a b l e f h =
-      let w : ℕ → Letter → Letter = λ n z. if inside run n then pending g else z in
+      let w : ℕ → ByteState → ByteState = λ n z. if inside run n then pending g else z in
       let zi : 0 + i ≡ i = omega arith in
       let zj : 0 + j ≡ j = omega arith in
       let x = slot_change w 0 ls i a e in

@@ -1,4 +1,4 @@
--- Letters and bytes place by place.
+-- States and bytes place by place.
 use Rattle.std.proofs.Common.{arith, ◌≡◌, ◌≢◌, ◌<◌, ◌≤◌, ◌+◌, ◌-◌, ℕ, zero, suc, Bool, true, false, List, [], ◌∷◌, ◌++◌, sym, ◌∙◌, ap, inl, inr, refl, length, drop, take, Option, Some, None}
 use Rattle.std.specs.Prelude.{◌⊎◌, ◌==◌, ◌&&◌, nat_lt, map, find, replicate, slice_get, if◌then◌else◌}
 use Rattle.std.specs.List.{list_any, list_all}
@@ -7,7 +7,7 @@ use Rattle.std.proofs.lemmas.Bool.Decides.{nat_tests}
 use Rattle.std.proofs.lemmas.Option.{slice_get-get_or}
 use Rattle.sparse_tracker.specs.declared.gaps.OpenGap.{OpenGap}
 use Rattle.sparse_tracker.specs.declared.tickets.Ticket.{Ticket}
-use Rattle.sparse_tracker.specs.Letters.{Letter, absent, pending, present, is_absent, is_present, change_from, letters_in, without_ticket}
+use Rattle.sparse_tracker.specs.ByteStates.{ByteState, absent, pending, present, is_absent, is_present, change_from, byte_states_in, without_ticket}
 
 -- ---- places of lists
 
@@ -52,19 +52,19 @@ same_take (suc n) (x ∷ xs) (y ∷ ys) h =
 pub same_slice : {X : Type 0} (at n : ℕ) (xs ys : List X) → ((i : ℕ) → at ≤ i → i < at + n → slice_get xs i ≡ slice_get ys i) → take n (drop at xs) ≡ take n (drop at ys)
 same_slice at n xs ys h = same_take n (drop at xs) (drop at ys) (λ i k. get_drop at xs i ∙ h (at + i) (omega arith) (omega arith) ∙ sym (get_drop at ys i))
 
--- ---- places of letters
+-- ---- places of states
 
 pub slot_map : {X Y : Type 0} (f : X → Y) (xs : List X) (i : ℕ) (y : Y) → slice_get (map f xs) i ≡ Some y → (x : X) × (slice_get xs i ≡ Some x) × (f x ≡ y)
 slot_map f [] i y e = absurd (cc)
 slot_map f (x ∷ xs) zero y e = (x, refl, cc)
 slot_map f (x ∷ xs) (suc i) y e = slot_map f xs i y e
 
-pub slot_change : (f : ℕ → Letter → Letter) (a : ℕ) (ls : List Letter) (i : ℕ) (l : Letter) → slice_get (change_from a f ls) i ≡ Some l → (k : Letter) × (slice_get ls i ≡ Some k) × (f (a + i) k ≡ l)
+pub slot_change : (f : ℕ → ByteState → ByteState) (a : ℕ) (ls : List ByteState) (i : ℕ) (l : ByteState) → slice_get (change_from a f ls) i ≡ Some l → (k : ByteState) × (slice_get ls i ≡ Some k) × (f (a + i) k ≡ l)
 slot_change f a [] i l e = absurd (cc)
 slot_change f a (x ∷ xs) zero l e = let z : a + 0 ≡ a = omega arith in (x, refl, rw z (cc))
 slot_change f a (x ∷ xs) (suc i) l e = let s : a + suc i ≡ a + 1 + i = omega arith in rw s (slot_change f (a + 1) xs i l e)
 
-pub length_change : (f : ℕ → Letter → Letter) (a : ℕ) (ls : List Letter) → length (change_from a f ls) ≡ length ls
+pub length_change : (f : ℕ → ByteState → ByteState) (a : ℕ) (ls : List ByteState) → length (change_from a f ls) ≡ length ls
 length_change f a [] = refl
 length_change f a (x ∷ xs) = let e = length_change f (a + 1) xs in omega (arith, e)
 
@@ -94,7 +94,7 @@ slot_find p (y ∷ ys) x e = elim (cases_Bool (p y)) [
   | inr t ↦ let r = slot_find p ys x (rw t at e) in (suc r.0, r.1, r.2)
 ]
 
--- ---- the letters of a sub-range
+-- ---- the states of a sub-range
 
 pub any_gives : {X : Type 0} (p : X → Bool) (xs : List X) → list_any p xs ≡ true → (j : ℕ) × (x : X) × (slice_get xs j ≡ Some x) × (p x ≡ true)
 any_gives p [] h = absurd (cc)
@@ -113,45 +113,45 @@ all_gives p [] j x h e = absurd (cc)
 all_gives p (y ∷ ys) zero x h e = elim (cases_Bool (p y)) [ inl t ↦ let same : y ≡ x = cc in ap p (sym same) ∙ t | inr t ↦ absurd (let r = rw t at h in cc) ]
 all_gives p (y ∷ ys) (suc j) x h e = elim (cases_Bool (p y)) [ inl t ↦ all_gives p ys j x (rw t at h) e | inr t ↦ absurd (let r = rw t at h in cc) ]
 
-pub in_from : (ls : List Letter) (start end i : ℕ) (l : Letter) → start ≤ i → i < end → slice_get ls i ≡ Some l → slice_get (letters_in start end ls) (i - start) ≡ Some l
+pub in_from : (ls : List ByteState) (start end i : ℕ) (l : ByteState) → start ≤ i → i < end → slice_get ls i ≡ Some l → slice_get (byte_states_in start end ls) (i - start) ≡ Some l
 in_from ls start end i l a b e =
     let s : start + (i - start) ≡ i = omega arith in
     get_take (end - start) (drop start ls) (i - start) (omega arith) ∙ get_drop start ls (i - start) ∙ ap (slice_get ls) s ∙ e
 
-pub in_gives : (ls : List Letter) (start end j : ℕ) (l : Letter) → slice_get (letters_in start end ls) j ≡ Some l → (start + j < end) × (slice_get ls (start + j) ≡ Some l)
+pub in_gives : (ls : List ByteState) (start end j : ℕ) (l : ByteState) → slice_get (byte_states_in start end ls) j ≡ Some l → (start + j < end) × (slice_get ls (start + j) ≡ Some l)
 in_gives ls start end j l e = elim (cases_lt j (end - start)) [
   | inl h ↦ (omega arith, sym (get_drop start ls j) ∙ sym (get_take (end - start) (drop start ls) j h) ∙ e)
   | inr h ↦ absurd (let w : None ≡ Some l = sym (get_take_past (end - start) (drop start ls) j h) ∙ e in cc)
 ]
 
--- a place of the sub-range with a letter of a kind
-pub record Spot (p : Letter → Bool) (ls : List Letter) (start end : ℕ) : Type 0 where
+-- a place of the sub-range with a state of a kind
+pub record Spot (p : ByteState → Bool) (ls : List ByteState) (start end : ℕ) : Type 0 where
   pub at : ℕ
-  pub letter : Letter
+  pub byte_state : ByteState
   pub within : (start ≤ at) × (at < end)
-  pub here : slice_get ls at ≡ Some letter
-  pub kind : p letter ≡ true
+  pub here : slice_get ls at ≡ Some byte_state
+  pub kind : p byte_state ≡ true
 
-pub spot_of : (p : Letter → Bool) (ls : List Letter) (start end : ℕ) → list_any p (letters_in start end ls) ≡ true → Spot p ls start end
+pub spot_of : (p : ByteState → Bool) (ls : List ByteState) (start end : ℕ) → list_any p (byte_states_in start end ls) ≡ true → Spot p ls start end
 spot_of p ls start end h =
-    let r = any_gives p (letters_in start end ls) h in
+    let r = any_gives p (byte_states_in start end ls) h in
     let g = in_gives ls start end r.0 r.1 r.2 in
-    record { at = start + r.0; letter = r.1; within = (omega arith, g.0); here = g.1; kind = r.3 }
+    record { at = start + r.0; byte_state = r.1; within = (omega arith, g.0); here = g.1; kind = r.3 }
 
-pub spot_from : (p : Letter → Bool) (ls : List Letter) (start end i : ℕ) (l : Letter) → start ≤ i → i < end → slice_get ls i ≡ Some l → p l ≡ true → list_any p (letters_in start end ls) ≡ true
-spot_from p ls start end i l a b e h = any_from p (letters_in start end ls) (i - start) l (in_from ls start end i l a b e) h
+pub spot_from : (p : ByteState → Bool) (ls : List ByteState) (start end i : ℕ) (l : ByteState) → start ≤ i → i < end → slice_get ls i ≡ Some l → p l ≡ true → list_any p (byte_states_in start end ls) ≡ true
+spot_from p ls start end i l a b e h = any_from p (byte_states_in start end ls) (i - start) l (in_from ls start end i l a b e) h
 
-pub is_absent_gives : (l : Letter) → is_absent l ≡ true → l ≡ absent
+pub is_absent_gives : (l : ByteState) → is_absent l ≡ true → l ≡ absent
 is_absent_gives absent h = refl
 is_absent_gives (pending g) h = absurd (cc)
 is_absent_gives present h = absurd (cc)
 
-pub is_present_gives : (l : Letter) → is_present l ≡ true → l ≡ present
+pub is_present_gives : (l : ByteState) → is_present l ≡ true → l ≡ present
 is_present_gives absent h = absurd (cc)
 is_present_gives (pending g) h = absurd (cc)
 is_present_gives present h = refl
 
-pub letter_here : (ls : List Letter) (i : ℕ) → i < length ls → (l : Letter) × (slice_get ls i ≡ Some l)
-letter_here [] i h = absurd (omega arith)
-letter_here (l ∷ ls) zero h = (l, refl)
-letter_here (l ∷ ls) (suc i) h = letter_here ls i (omega arith)
+pub byte_state_here : (ls : List ByteState) (i : ℕ) → i < length ls → (l : ByteState) × (slice_get ls i ≡ Some l)
+byte_state_here [] i h = absurd (omega arith)
+byte_state_here (l ∷ ls) zero h = (l, refl)
+byte_state_here (l ∷ ls) (suc i) h = byte_state_here ls i (omega arith)

@@ -1,4 +1,4 @@
--- Each call keeps a cell's letters and tickets as every cell has them.
+-- Each call keeps a cell's states and tickets as every cell has them.
 use Rattle.std.proofs.Common.{arith, ◌≡◌, ◌≢◌, ◌<◌, ◌≤◌, ◌+◌, ◌-◌, ◌*◌, ◌/◌, ℕ, Bool, true, false, List, [], ◌∷◌, ◌++◌, length, sym, ◌∙◌, ap, inl, inr, refl, Option, Some, None}
 use Rattle.std.specs.Prelude.{◌⊎◌, ◌&&◌, ◌||◌, if◌then◌else◌, nat_lt, nat_le, min, map, slice_get, replicate}
 use Rattle.std.specs.List.{list_any}
@@ -9,22 +9,22 @@ use Rattle.std.proofs.lemmas.Option.{slice_get_within}
 use Rattle.region_ranges.specs.declared.ranges.ByteRange.{ByteRange}
 use Rattle.region_ranges.specs.Ranges.{inside, aligned}
 use Rattle.sparse_tracker.specs.declared.tickets.Ticket.{Ticket}
-use Rattle.sparse_tracker.specs.Letters as letters
-use Rattle.sparse_tracker.specs.Letters.{Letter, absent, pending, present, is_absent, is_under, change, Tracker, claimed_run, open_gap, open_gap_at, with_ticket, new_ticket, wait_for_range, fail_ticket, lacks, least_unused, ids}
+use Rattle.sparse_tracker.specs.ByteStates as byte_states
+use Rattle.sparse_tracker.specs.ByteStates.{ByteState, absent, pending, present, is_absent, is_under, change, Tracker, claimed_run, open_gap, open_gap_at, with_ticket, new_ticket, wait_for_range, fail_ticket, lacks, least_unused, ids}
 use Rattle.sparse_tracker.specs.Places.{ClaimPlaces, IsFirstAbsent, IsRunRound}
 use Rattle.region_cell.specs.Cells.{Region, len_of, InOrder, IsRanged, assign, claim, claim_run, range_round, progress, fail, leave}
 use Rattle.region_cell.proofs.Places.{slot_change, slot_map, slot_behind, slot_without, length_change, Spot, spot_of, spot_from, is_absent_gives}
 use Rattle.region_cell.proofs.Orders.{order_new, order_map, order_progress, order_claim, reaches, in_is, part_gives, part_is}
 
 -- an absent byte of the sub-range, by its place
-pub lacks_from : (t : Tracker) (k : Ticket) (i : ℕ) → k.start ≤ i → i < k.end → slice_get t.letters i ≡ Some absent → lacks (record { start = k.start; end = k.end }) t ≡ true
-lacks_from t k i a b e = spot_from is_absent t.letters k.start k.end i absent a b e refl
+pub lacks_from : (t : Tracker) (k : Ticket) (i : ℕ) → k.start ≤ i → i < k.end → slice_get t.byte_states i ≡ Some absent → lacks (record { start = k.start; end = k.end }) t ≡ true
+lacks_from t k i a b e = spot_from is_absent t.byte_states k.start k.end i absent a b e refl
 
-pub lacks_at : (t : Tracker) (sub : ByteRange) → lacks sub t ≡ true → Spot is_absent t.letters sub.start sub.end
-lacks_at t sub h = spot_of is_absent t.letters sub.start sub.end h
+pub lacks_at : (t : Tracker) (sub : ByteRange) → lacks sub t ≡ true → Spot is_absent t.byte_states sub.start sub.end
+lacks_at t sub h = spot_of is_absent t.byte_states sub.start sub.end h
 
-spot_absent : (ls : List Letter) (start end : ℕ) (s : Spot is_absent ls start end) → slice_get ls s.at ≡ Some absent
-spot_absent ls start end s = s.here ∙ ap Some (is_absent_gives s.letter s.kind)
+spot_absent : (ls : List ByteState) (start end : ℕ) (s : Spot is_absent ls start end) → slice_get ls s.at ≡ Some absent
+spot_absent ls start end s = s.here ∙ ap Some (is_absent_gives s.byte_state s.kind)
 
 -- ---- a new key
 
@@ -37,7 +37,7 @@ ranged_assign range tag len c = record {
 
 -- ---- progress and leave
 
-absent_before : (g to : ℕ) (ls : List Letter) (i : ℕ) → slice_get (change (λ i l. if is_under g l && nat_lt i to then present else l) ls) i ≡ Some absent → slice_get ls i ≡ Some absent
+absent_before : (g to : ℕ) (ls : List ByteState) (i : ℕ) → slice_get (change (λ i l. if is_under g l && nat_lt i to then present else l) ls) i ≡ Some absent → slice_get ls i ≡ Some absent
 absent_before g to ls i e =
     let x = slot_change (λ i l. if is_under g l && nat_lt i to then present else l) 0 ls i absent e in
     elim (cases_Bool (is_under g x.0 && nat_lt (0 + i) to)) [
@@ -47,7 +47,7 @@ absent_before g to ls i e =
 
 pub ranged_progress : (range g to : ℕ) (c : Region) → IsRanged range c → IsRanged range (progress g to c)
 ranged_progress range g to c r =
-    let ls = c.tracker.letters in
+    let ls = c.tracker.byte_states in
     let len : length (change (λ i l. if is_under g l && nat_lt i to then present else l) ls) ≡ length ls = length_change _ 0 ls in
     record {
       order = order_progress range g to ls r.order;
@@ -69,8 +69,8 @@ ranged_leave range n c r = record {
 
 pub ranged_fail : (range g : ℕ) (c : Region) → IsRanged range c → IsRanged range (fail g c)
 ranged_fail range g c r =
-    let ls = c.tracker.letters in
-    let lost : Letter → Letter = λ l. if is_under g l then absent else l in
+    let ls = c.tracker.byte_states in
+    let lost : ByteState → ByteState = λ l. if is_under g l then absent else l in
     let len : length (map (λ l. if is_under g l then absent else l) ls) ≡ length ls = length-map ls (λ l. if is_under g l then absent else l) in
     record {
       order = order_map range (λ l. if is_under g l then absent else l) ls refl r.order;
@@ -88,7 +88,7 @@ ranged_fail range g c r =
           let ends : x.0.end ≡ k.end = ap (λ (y : Ticket). y.end) x.2 in
           let s = lacks_at (fail g c).tracker (record { start = k.start; end = k.end }) h in
           let y = slot_map (λ l. if is_under g l then absent else l) ls s.at absent (spot_absent _ _ _ s) in
-          let failed : (x.0.failed || list_any (is_under g) (letters.letters_in x.0.start x.0.end ls)) ≡ k.failed = ap (λ (z : Ticket). z.failed) x.2 in
+          let failed : (x.0.failed || list_any (is_under g) (byte_states.byte_states_in x.0.start x.0.end ls)) ≡ k.failed = ap (λ (z : Ticket). z.failed) x.2 in
           sym failed ∙ elim (cases_Bool (is_under g y.0)) [
             | inl u ↦
                 let any = spot_from (is_under g) ls x.0.start x.0.end s.at y.0 (omega (arith, begins, s.within)) (omega (arith, ends, s.within)) y.1 u in
@@ -120,9 +120,9 @@ module _ (range : ℕ) (sub : ByteRange) (c : Region) (places : ClaimPlaces) (so
       part_is i range (sub.start / range) (omega (arith, p)) (omega (arith, q))
 
   -- what is absent after the claim was absent before, and is not in the run
-  taken : (run : ByteRange) (g i : ℕ) → slice_get (change (λ i l. if inside run i then pending g else l) c.tracker.letters) i ≡ Some absent → (inside run i ≡ false) × (slice_get c.tracker.letters i ≡ Some absent)
+  taken : (run : ByteRange) (g i : ℕ) → slice_get (change (λ i l. if inside run i then pending g else l) c.tracker.byte_states) i ≡ Some absent → (inside run i ≡ false) × (slice_get c.tracker.byte_states i ≡ Some absent)
   taken run g i f =
-      let x = slot_change (λ i l. if inside run i then pending g else l) 0 c.tracker.letters i absent f in
+      let x = slot_change (λ i l. if inside run i then pending g else l) 0 c.tracker.byte_states i absent f in
       let z : 0 + i ≡ i = omega arith in
       let y : (if inside run i then pending g else x.0) ≡ absent = ap (λ (n : ℕ). if inside run n then pending g else x.0) (sym z) ∙ x.2 in
       elim (cases_Bool (inside run i)) [
@@ -159,7 +159,7 @@ module _ (range : ℕ) (sub : ByteRange) (c : Region) (places : ClaimPlaces) (so
   opened : (run : ByteRange) → claim_run range sub c ≡ Some run → IsRanged range (record c { tracker = with_ticket sub (open_gap run c.tracker) })
   opened run e =
       let t = c.tracker in
-      let ls = c.tracker.letters in
+      let ls = c.tracker.byte_states in
       let g = least_unused (ids t.gaps) in
       let p = places.some (range_round range sub c) sub run t round first ends_in top e in
       let at = p.0 in

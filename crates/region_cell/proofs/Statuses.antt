@@ -7,11 +7,11 @@ use Rattle.sparse_tracker.specs.declared.tickets.Ticket.{Ticket}
 use Rattle.region_ranges.specs.declared.ranges.ByteRange.{ByteRange}
 use Rattle.sparse_tracker.specs.declared.status.Status.{Status}
 use Rattle.sparse_tracker.specs.declared.status.Status.TheVariants.{Ready, Waiting, Failed, Open}
-use Rattle.sparse_tracker.specs.Letters.{Letter, Tracker, is_absent, is_present, letters_in, status_of, status, ticket_of, has_all}
+use Rattle.sparse_tracker.specs.ByteStates.{ByteState, Tracker, is_absent, is_present, byte_states_in, status_of, status, ticket_of, has_all}
 use Rattle.region_cell.specs.Cells.{Region, len_of, IsRanged}
 use Rattle.region_cell.proofs.Places.{slot_find}
 
-ready_has : (ls : List Letter) (failed : Bool) → status_of ls failed ≡ Ready → list_all is_present ls ≡ true
+ready_has : (ls : List ByteState) (failed : Bool) → status_of ls failed ≡ Ready → list_all is_present ls ≡ true
 ready_has ls failed e = elim (cases_Bool (list_all is_present ls)) [
   | inl t ↦ t
   | inr t ↦ elim (cases_Bool (list_any is_absent ls)) [
@@ -20,7 +20,7 @@ ready_has ls failed e = elim (cases_Bool (list_all is_present ls)) [
   ]
 ]
 
-open_lacks : (ls : List Letter) (failed : Bool) → status_of ls failed ≡ Open → (list_any is_absent ls ≡ true) × (failed ≡ false)
+open_lacks : (ls : List ByteState) (failed : Bool) → status_of ls failed ≡ Open → (list_any is_absent ls ≡ true) × (failed ≡ false)
 open_lacks ls failed e = elim (cases_Bool (list_all is_present ls)) [
   | inl t ↦ absurd (let r = rw t at e in cc)
   | inr t ↦ elim (cases_Bool (list_any is_absent ls)) [
@@ -43,14 +43,14 @@ known range c n k r e =
       some = t.0;
       most = t.1;
       settled = λ o.
-          let l = open_lacks (letters_in k.start k.end c.tracker.letters) k.failed o in
+          let l = open_lacks (byte_states_in k.start k.end c.tracker.byte_states) k.failed o in
           let m = r.marked f.0 k f.1 l.0 in
           let w : true ≡ false = sym m ∙ l.1 in
           cc;
     }
 
 pub ready_is : (k : Ticket) (t : Tracker) → status k t ≡ Ready → has_all (record { start = k.start; end = k.end }) t ≡ true
-ready_is k t e = ready_has (letters_in k.start k.end t.letters) k.failed e
+ready_is k t e = ready_has (byte_states_in k.start k.end t.byte_states) k.failed e
 
 -- the ticket that a call speaks of, with what it answers
 pub record Held (n : ℕ) (t : Tracker) (s : Status) : Type 0 where

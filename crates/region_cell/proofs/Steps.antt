@@ -6,14 +6,14 @@ use Rattle.region_ranges.specs.declared.ranges.ByteRange.{ByteRange}
 use Rattle.region_ranges.specs.Keys.{manifest_of}
 use Rattle.sparse_tracker.specs.declared.gaps.OpenGap.{OpenGap}
 use Rattle.sparse_tracker.specs.declared.tickets.Ticket.{Ticket}
-use Rattle.sparse_tracker.specs.Letters.{gap_of, ticket_of}
+use Rattle.sparse_tracker.specs.ByteStates.{gap_of, ticket_of}
 use Rattle.blob_parts.specs.Pieces.{PieceView, IsPieceAt}
-use Rattle.region_cell.specs.Cells.{Region, Note, CellView, len_of, region_bytes, file_of, part_of, claim, progress, fail, leave, with_region, with_frame, LiesInRange, FitsGap, FrameStays}
+use Rattle.region_cell.specs.Cells.{Region, CellMetadata, CellView, len_of, region_bytes, file_of, part_of, claim, progress, fail, leave, with_region, with_frame, LiesInRange, FitsGap, FrameStays}
 use Rattle.region_cell.specs.Example.{IsAt, fresh, claimed, begun, joined, lost, short, short_claimed, half, whole, first_ticket, wanted, few, front}
 
 -- ---- what a call asks for
 
-module _ (s : Region) (n : Note) (a : IsAt s n) where
+module _ (s : Region) (n : CellMetadata) (a : IsAt s n) where
   pub lies : (start end len : ℕ) → len_of s ≡ len → start < end → end ≤ len → end ≤ 4096 → LiesInRange (record { start = start; end = end }) n
   lies start end len l h m k =
       let r : len_of n.region ≡ len = ap len_of a.region ∙ l in
@@ -40,19 +40,19 @@ module _ (s : Region) (n : Note) (a : IsAt s n) where
   pub claims : (sub : ByteRange) → IsAt (claim 4096 sub s) (record n { region = claim n.range sub n.region })
   claims sub = record { region = rw (a.region, a.range) refl; size = a.size; range = a.range }
 
-  pub becomes : (u : Region) (y : Note) → y.region ≡ u → FrameStays n.frame y.frame → y.range ≡ n.range → IsAt u y
+  pub becomes : (u : Region) (y : CellMetadata) → y.region ≡ u → FrameStays n.frame y.frame → y.range ≡ n.range → IsAt u y
   becomes u y r f e = record { region = r; size = f.size ∙ a.size; range = e ∙ a.range }
 
   -- a store of a piece
-  pub stored : (u : Region) (y : Note) (g len : ℕ) (o : OpenGap) → gap_of g s.tracker ≡ Some o → IfSome (gap_of g n.region.tracker) (λ x. y.region ≡ progress g (x.upto + len) n.region) → progress g (o.upto + len) s ≡ u → FrameStays n.frame y.frame → y.range ≡ n.range → IsAt u y
+  pub stored : (u : Region) (y : CellMetadata) (g len : ℕ) (o : OpenGap) → gap_of g s.tracker ≡ Some o → IfSome (gap_of g n.region.tracker) (λ x. y.region ≡ progress g (x.upto + len) n.region) → progress g (o.upto + len) s ≡ u → FrameStays n.frame y.frame → y.range ≡ n.range → IsAt u y
   stored u y g len o e i h f r = let q = rw (a.region, e) at i in becomes u y (q ∙ h) f r
 
   pub leaves : (k : ℕ) → IsAt (leave k s) (record n { region = leave k n.region })
   leaves k = record { region = rw a.region refl; size = a.size; range = a.range }
 
 -- a copy or a look
-pub stays_at : (s : Region) (x y : CellView) → IsAt s x.note → y ≡ with_frame y.note.frame x → FrameStays x.note.frame y.note.frame → IsAt s y.note
-stays_at s x y a e f = record { region = ap (λ (v : CellView). v.note.region) e ∙ a.region; size = f.size ∙ a.size; range = ap (λ (v : CellView). v.note.range) e ∙ a.range }
+pub stays_at : (s : Region) (x y : CellView) → IsAt s x.metadata → y ≡ with_frame y.metadata.frame x → FrameStays x.metadata.frame y.metadata.frame → IsAt s y.metadata
+stays_at s x y a e f = record { region = ap (λ (v : CellView). v.metadata.region) e ∙ a.region; size = f.size ∙ a.size; range = ap (λ (v : CellView). v.metadata.range) e ∙ a.range }
 
 -- ---- the states
 
@@ -126,19 +126,19 @@ pub whole_ticket : ticket_of 0 whole.tracker ≡ Some (record { number = 0; star
 unfolding whole
 whole_ticket = refl
 
-pub at_claimed : (n : Note) → IsAt fresh n → IsAt claimed (record n { region = claim n.range wanted n.region })
+pub at_claimed : (n : CellMetadata) → IsAt fresh n → IsAt claimed (record n { region = claim n.range wanted n.region })
 unfolding fresh claimed
 at_claimed n a = claims fresh n a wanted
 
-pub at_joined : (n : Note) → IsAt begun n → IsAt joined (record n { region = claim n.range few n.region })
+pub at_joined : (n : CellMetadata) → IsAt begun n → IsAt joined (record n { region = claim n.range few n.region })
 unfolding begun joined
 at_joined n a = claims begun n a few
 
-pub at_short_claimed : (n : Note) → IsAt short n → IsAt short_claimed (record n { region = claim n.range front n.region })
+pub at_short_claimed : (n : CellMetadata) → IsAt short n → IsAt short_claimed (record n { region = claim n.range front n.region })
 unfolding short short_claimed
 at_short_claimed n a = claims short n a front
 
-pub at_lost : (n : Note) → IsAt joined n → IsAt lost (record n { region = fail 0 n.region })
+pub at_lost : (n : CellMetadata) → IsAt joined n → IsAt lost (record n { region = fail 0 n.region })
 unfolding joined lost
 at_lost n a = record { region = rw a.region refl; size = a.size; range = a.range }
 

@@ -8,34 +8,34 @@ use Rattle.region_ranges.specs.Keys.{free_tag, tag_of, manifest_of}
 use Rattle.sparse_tracker.specs.declared.gaps.OpenGap.{OpenGap}
 use Rattle.sparse_tracker.specs.declared.tickets.Ticket.{Ticket}
 use Rattle.sparse_tracker.specs.declared.status.Claim.{Claim}
-use Rattle.sparse_tracker.specs.Letters as letters
-use Rattle.sparse_tracker.specs.Letters.{Letter, present, Tracker, TrackerView, claimed_run, new_tracker, has_all, lacks}
+use Rattle.sparse_tracker.specs.ByteStates as byte_states
+use Rattle.sparse_tracker.specs.ByteStates.{ByteState, present, Tracker, TrackerView, claimed_run, new_tracker, has_all, lacks}
 use Rattle.sparse_tracker.specs.Kept as tracker
 use Rattle.cache_outside.specs.Causes.{Rose}
 use Rattle.blob_parts.specs.Content.{slice_of}
 use Rattle.blob_parts.specs.Pieces.{PieceView}
 
--- the tag of a region's key, or the free tag, and its letters, gaps and tickets
+-- the tag of a region's key, or the free tag, and its states, gaps and tickets
 pub record Region : Type 0 where
   pub tag : ℕ
   pub tracker : Tracker
 
 -- what is told of a frame, but for its bytes
-pub record FrameNote : Type 0 where
+pub record FrameMetadata : Type 0 where
   pub faults : ℕ
   pub size : ℕ
   pub tells : Bool
   pub steady : Bool
 
 -- all of a cell but its bytes and its room; `range` is the size of the ranges in which it is filled
-pub record Note : Type 0 where
+pub record CellMetadata : Type 0 where
   pub region : Region
-  pub frame : FrameNote
+  pub frame : FrameMetadata
   pub range : ℕ
 
 -- what contracts see of a cell; `spare` is the number of claims for which there is room
 pub record CellView : Type 0 where
-  pub note : Note
+  pub metadata : CellMetadata
   pub bytes : List ℕ
   pub spare : ℕ
 
@@ -45,16 +45,16 @@ tag_at None = free_tag
 tag_at (Some key) = tag_of key
 
 -- what is seen of a cell's parts
-abbrev pub seen : Option RegionKey → TrackerView → FrameNote → ℕ → List ℕ → CellView
-seen key t frame range bytes = record { note = record { region = record { tag = tag_at key; tracker = t.tracker }; frame = frame; range = range }; bytes = bytes; spare = t.spare }
+abbrev pub seen : Option RegionKey → TrackerView → FrameMetadata → ℕ → List ℕ → CellView
+seen key t frame range bytes = record { metadata = record { region = record { tag = tag_at key; tracker = t.tracker }; frame = frame; range = range }; bytes = bytes; spare = t.spare }
 
 -- a cell without a key, as long as its frame, with all bytes absent
-abbrev pub new_cell : FrameNote → ℕ → List ℕ → CellView
-new_cell frame range bytes = record { note = record { region = record { tag = free_tag; tracker = new_tracker frame.size }; frame = frame; range = range }; bytes = bytes; spare = 0 }
+abbrev pub new_cell : FrameMetadata → ℕ → List ℕ → CellView
+new_cell frame range bytes = record { metadata = record { region = record { tag = free_tag; tracker = new_tracker frame.size }; frame = frame; range = range }; bytes = bytes; spare = 0 }
 
--- the number of a region's letters
+-- the number of a region's states
 abbrev pub len_of : Region → ℕ
-len_of c = length c.tracker.letters
+len_of c = length c.tracker.byte_states
 
 -- ---- the bytes of a region
 
@@ -85,35 +85,35 @@ abbrev pub claim_run : ℕ → ByteRange → Region → Option ByteRange
 claim_run range sub c = claimed_run (range_round range sub c) sub c.tracker
 
 abbrev pub claim : ℕ → ByteRange → Region → Region
-claim range sub c = record c { tracker = letters.wait_for_range (range_round range sub c) sub c.tracker }
+claim range sub c = record c { tracker = byte_states.wait_for_range (range_round range sub c) sub c.tracker }
 
 -- what a claim answers
 abbrev pub new_claim : ℕ → ByteRange → Region → Claim
-new_claim range sub c = letters.new_claim (range_round range sub c) sub c.tracker
+new_claim range sub c = byte_states.new_claim (range_round range sub c) sub c.tracker
 
 abbrev pub progress : ℕ → ℕ → Region → Region
-progress g to c = record c { tracker = letters.progress g to c.tracker }
+progress g to c = record c { tracker = byte_states.progress g to c.tracker }
 
 abbrev pub fail : ℕ → Region → Region
-fail g c = record c { tracker = letters.fail g c.tracker }
+fail g c = record c { tracker = byte_states.fail g c.tracker }
 
 abbrev pub leave : ℕ → Region → Region
-leave n c = record c { tracker = letters.leave n c.tracker }
+leave n c = record c { tracker = byte_states.leave n c.tracker }
 
 abbrev pub are_present : ByteRange → Region → Bool
 are_present sub c = has_all sub c.tracker
 
 -- a cell with another region, and a cell with another note of its frame
 abbrev pub with_region : Region → CellView → CellView
-with_region r c = record c { note = record c.note { region = r } }
+with_region r c = record c { metadata = record c.metadata { region = r } }
 
-abbrev pub with_frame : FrameNote → CellView → CellView
-with_frame f c = record c { note = record c.note { frame = f } }
+abbrev pub with_frame : FrameMetadata → CellView → CellView
+with_frame f c = record c { metadata = record c.metadata { frame = f } }
 
 -- ---- conditions
 
 -- a range that is not empty and lies in one aligned range of the cell
-abbrev pub LiesInRange : ByteRange → Note → Type 0
+abbrev pub LiesInRange : ByteRange → CellMetadata → Type 0
 LiesInRange sub n = (sub.start < sub.end) × (sub.end ≤ len_of n.region) × (sub.start / n.range ≡ (sub.end - 1) / n.range)
 
 -- a piece of the key's file that begins at the gap's present end and stays in the gap
@@ -126,7 +126,7 @@ pub record FitsGap (size tag : ℕ) (g : OpenGap) (piece : PieceView) : Type 0 w
 -- ---- what a call of the frame leaves
 
 -- its count has not fallen, that of a steady one stands, and all else is as it was
-pub record FrameStays (before now : FrameNote) : Type 0 where
+pub record FrameStays (before now : FrameMetadata) : Type 0 where
   pub size : now.size ≡ before.size
   pub tells : now.tells ≡ before.tells
   pub steady : now.steady ≡ before.steady
@@ -134,31 +134,31 @@ pub record FrameStays (before now : FrameNote) : Type 0 where
   pub stands : IsTrue before.steady → now.faults ≡ before.faults
 
 -- its count rose, or stands at its last value
-abbrev pub Faulted : FrameNote → FrameNote → Type 0
+abbrev pub Faulted : FrameMetadata → FrameMetadata → Type 0
 Faulted before now = Rose before.faults now.faults
 
 -- ---- what is true of every cell
 
--- a letter that is not present is followed, in its aligned range, by the same letter only
-abbrev pub InOrder : ℕ → List Letter → Type 0
-InOrder range ls = (i j : ℕ) (a b : Letter) → i < j → slice_get ls i ≡ Some a → slice_get ls j ≡ Some b → i / range ≡ j / range → (a ≡ present) ⊎ (b ≡ a)
+-- a state that is not present is followed, in its aligned range, by the same state only
+abbrev pub InOrder : ℕ → List ByteState → Type 0
+InOrder range ls = (i j : ℕ) (a b : ByteState) → i < j → slice_get ls i ≡ Some a → slice_get ls j ≡ Some b → i / range ≡ j / range → (a ≡ present) ⊎ (b ≡ a)
 
 -- each ticket's bytes lie in one aligned range, and where one of them is absent the ticket is marked failed
 pub record IsRanged (range : ℕ) (c : Region) : Type 0 where
-  pub order : InOrder range c.tracker.letters
+  pub order : InOrder range c.tracker.byte_states
   pub tickets : (j : ℕ) (k : Ticket) → slice_get c.tracker.tickets j ≡ Some k → (k.start < k.end) × (k.end ≤ len_of c) × (k.start / range ≡ (k.end - 1) / range)
   pub marked : (j : ℕ) (k : Ticket) → slice_get c.tracker.tickets j ≡ Some k → lacks (record { start = k.start; end = k.end }) c.tracker ≡ true → k.failed ≡ true
 
 -- each byte marked present is the file's
 abbrev pub IsFilled : (ℕ → ℕ → List ℕ) → ℕ → Region → List ℕ → Type 0
-IsFilled files size c bytes = (i : ℕ) → slice_get c.tracker.letters i ≡ Some present → slice_get bytes i ≡ slice_get (region_bytes files size c.tag) i
+IsFilled files size c bytes = (i : ℕ) → slice_get c.tracker.byte_states i ≡ Some present → slice_get bytes i ≡ slice_get (region_bytes files size c.tag) i
 
 -- a cell with a key is as long as that region of the file
 abbrev pub IsWhole : (ℕ → ℕ → List ℕ) → ℕ → Region → Type 0
 IsWhole files size c = c.tag ≢ free_tag → len_of c ≡ length (region_bytes files size c.tag)
 
--- a range divides a region, and no cell has more letters than a region has bytes
-pub record IsSized (n : Note) : Type 0 where
+-- a range divides a region, and no cell has more states than a region has bytes
+pub record IsSized (n : CellMetadata) : Type 0 where
   pub range : 0 < n.range
   pub divides : n.frame.size % n.range ≡ 0
   pub size : (0 < n.frame.size) × (n.frame.size < 16777217)
@@ -166,14 +166,14 @@ pub record IsSized (n : Note) : Type 0 where
 
 -- what a cell keeps, where `told` says whether the archive tells its files
 pub record IsKept (told : Bool) (files : ℕ → ℕ → List ℕ) (c : CellView) : Type 0 where
-  pub sized : IsSized c.note
-  pub ranged : IsRanged c.note.range c.note.region
-  pub whole : IsTrue told → IsWhole files c.note.frame.size c.note.region
-  pub filled : IsTrue told → IsTrue c.note.frame.tells → IsFilled files c.note.frame.size c.note.region c.bytes
+  pub sized : IsSized c.metadata
+  pub ranged : IsRanged c.metadata.range c.metadata.region
+  pub whole : IsTrue told → IsWhole files c.metadata.frame.size c.metadata.region
+  pub filled : IsTrue told → IsTrue c.metadata.frame.tells → IsFilled files c.metadata.frame.size c.metadata.region c.bytes
 
 -- all that is true of every cell
 pub record IsGood (told : Bool) (files : ℕ → ℕ → List ℕ) (c : CellView) : Type 0 where
   pub cell : IsKept told files c
-  pub tracker : tracker.IsGood c.note.region.tracker
-  pub bytes : IsTrue c.note.frame.tells → length c.bytes ≡ c.note.frame.size
-  pub unfailed : IsTrue c.note.frame.steady → c.note.frame.faults ≡ 0
+  pub tracker : tracker.IsGood c.metadata.region.tracker
+  pub bytes : IsTrue c.metadata.frame.tells → length c.bytes ≡ c.metadata.frame.size
+  pub unfailed : IsTrue c.metadata.frame.steady → c.metadata.frame.faults ≡ 0

@@ -4,9 +4,9 @@ use Rattle.std.proofs.Common.{arith}
 use Rattle.std.specs.List.{range_with_len}
 use Rattle.region_ranges.specs.declared.ranges.ByteRange.{ByteRange}
 use Rattle.sparse_tracker.specs.declared.tickets.Ticket.{Ticket}
-use Rattle.sparse_tracker.specs.Letters.{new_tracker}
+use Rattle.sparse_tracker.specs.ByteStates.{new_tracker}
 use Rattle.cache_outside.specs.Listing.{Listing, manifests, names_differ}
-use Rattle.region_cell.specs.Cells.{Region, Note, claim, progress, fail}
+use Rattle.region_cell.specs.Cells.{Region, CellMetadata, claim, progress, fail}
 
 -- one file of 10,000 bytes, of which byte i is i mod 251
 abbrev pub manifest_y : List ℕ
@@ -31,7 +31,7 @@ unfolding example
 different = refl
 
 -- a cell of a region of 8,192 bytes in ranges of 4,096
-pub record IsAt (state : Region) (n : Note) : Type 0 where
+pub record IsAt (state : Region) (n : CellMetadata) : Type 0 where
   pub region : n.region ≡ state
   pub size : n.frame.size ≡ 8192
   pub range : n.range ≡ 4096

@@ -3,13 +3,13 @@ use Rattle.std.specs.Prelude.{◌≡◌, ◌<◌, ◌≤◌, ◌+◌, ◌-◌, �
 use Rattle.region_ranges.specs.declared.ranges.ByteRange.{ByteRange}
 use Rattle.region_ranges.specs.Keys.{manifest_of}
 use Rattle.sparse_tracker.specs.declared.gaps.OpenGap.{OpenGap}
-use Rattle.sparse_tracker.specs.Letters.{gap_of}
+use Rattle.sparse_tracker.specs.ByteStates.{gap_of}
 use Rattle.sparse_tracker.specs.Kept as tracker
 use Rattle.cache_outside.specs.Frames.{put_at, SameOutside}
 use Rattle.blob_parts.specs.Content.{slice_of}
 use Rattle.region_cell.specs.Cells.{Region, len_of, IsRanged, IsFilled, assign, claim, progress, fail, leave, file_of, part_of}
 
--- the order of letters, and the tickets
+-- the order of states, and the tickets
 pub record RangedStays : Type 0 where
   pub assign : (range tag len : ℕ) (c : Region) → IsRanged range (assign tag len c)
   pub claim : (range : ℕ) (sub : ByteRange) (c : Region) → 0 < range → sub.start < sub.end → sub.end ≤ len_of c → sub.start / range ≡ (sub.end - 1) / range → IsRanged range c → IsRanged range (claim range sub c)
@@ -26,7 +26,7 @@ pub record FilledStays (files : ℕ → ℕ → List ℕ) (size : ℕ) : Type 0 
   pub fail : (g : ℕ) (c : Region) (bytes : List ℕ) → IsFilled files size c bytes → IsFilled files size (fail g c) bytes
   pub leave : (n : ℕ) (c : Region) (bytes : List ℕ) → IsFilled files size c bytes → IsFilled files size (leave n c) bytes
 
--- the number of letters
+-- the number of states
 pub record LenStays : Type 0 where
   pub claim : (range : ℕ) (sub : ByteRange) (c : Region) → len_of (claim range sub c) ≡ len_of c
   pub progress : (g to : ℕ) (c : Region) → len_of (progress g to c) ≡ len_of c

@@ -1,6 +1,6 @@
 ghost use Rattle.std.specs.Prelude.{◌≡◌, ◌≢◌, ◌⊎◌, ◌<◌, ◌≤◌, ◌+◌, ◌-◌, ◌↔◌, ℕ, max, IsTrue, OnOk, OnErr, IfOk, IfSome, IfNone, IsOk, IsSome, is_some, length, [], Some};
 ghost use Rattle.region_ranges.specs.Keys.{IsConfig, IsKey, tag_of, key_of, free_tag};
-ghost use Rattle.sparse_tracker.specs.Letters.{gap_of, ticket_of, status};
+ghost use Rattle.sparse_tracker.specs.ByteStates.{gap_of, ticket_of, status};
 ghost use Rattle.sparse_tracker.specs.declared.tickets.Ticket.{Ticket};
 ghost use Rattle.sparse_tracker.specs.declared.status.Status.TheVariants as status_of;
 ghost use Rattle.cache_outside.specs.Frames.{put_at, SameOutside};
@@ -16,7 +16,7 @@ use std::alloc::{AllocError, Global};
 use std::marker::{Model, PhantomData};
 
 /// The bytes of one region of a file, as far as they are present, or of none. Clauses see a note of all but the bytes (the
-/// key's tag, the letters with gaps and tickets, what the frame tells, the range in which the cell is filled), the bytes, and
+/// key's tag, the states with gaps and tickets, what the frame tells, the range in which the cell is filled), the bytes, and
 /// for how many claims there is room.
 #[derive(Drop)]
 pub struct RegionCell<A: Archive, F: Frame> {
@@ -64,16 +64,16 @@ impl<A: Archive, F: Frame> RegionCell<A, F> {
 
     /// The key of the region whose bytes it holds.
     pub fn key(&self) -> Option<RegionKey>
-        ensures value { result ≡ key_of self.now.note.region.tag }
-        ensures some { IfSome result (λ key. IsKey key × (tag_of key ≡ self.now.note.region.tag)) }
-        ensures none { IfNone result (self.now.note.region.tag ≡ free_tag) }
+        ensures value { result ≡ key_of self.now.metadata.region.tag }
+        ensures some { IfSome result (λ key. IsKey key × (tag_of key ≡ self.now.metadata.region.tag)) }
+        ensures none { IfNone result (self.now.metadata.region.tag ≡ free_tag) }
     {
         self.key
     }
 
     /// The number of its bytes, whether present or not.
     pub fn len(&self) -> u32
-        ensures { result ≡ len_of self.now.note.region }
+        ensures { result ≡ len_of self.now.metadata.region }
     {
         self.tracker.len()
     }
@@ -81,7 +81,7 @@ impl<A: Archive, F: Frame> RegionCell<A, F> {
     /// What is true of every cell.
     pub fn lesson(&self)
         ensures good { IsGood A.tells (content A.blobs) self.now }
-        ensures settled { (n : ℕ) (k : Ticket) → ticket_of n self.now.note.region.tracker ≡ Some k → status k self.now.note.region.tracker ≢ status_of.Open }
+        ensures settled { (n : ℕ) (k : Ticket) → ticket_of n self.now.metadata.region.tracker ≡ Some k → status k self.now.metadata.region.tracker ≢ status_of.Open }
     {
         self.tracker.lesson();
     }
@@ -89,11 +89,11 @@ impl<A: Archive, F: Frame> RegionCell<A, F> {
     /// Makes it the cell of the key's region, with `len` bytes, all absent. The room for claims stays.
     pub fn assign(&mut self, key: RegionKey, len: u32)
         requires key { IsKey key }
-        requires gaps { self.old.note.region.tracker.gaps ≡ [] }
-        requires tickets { self.old.note.region.tracker.tickets ≡ [] }
-        requires len { (0 < len) × (len ≤ self.old.note.frame.size) }
-        requires told { IsTrue A.tells → len ≡ length (region_bytes (content A.blobs) self.old.note.frame.size (tag_of key)) }
-        ensures { self.new ≡ with_region (assign (tag_of key) len self.old.note.region) self.old }
+        requires gaps { self.old.metadata.region.tracker.gaps ≡ [] }
+        requires tickets { self.old.metadata.region.tracker.tickets ≡ [] }
+        requires len { (0 < len) × (len ≤ self.old.metadata.frame.size) }
+        requires told { IsTrue A.tells → len ≡ length (region_bytes (content A.blobs) self.old.metadata.frame.size (tag_of key)) }
+        ensures { self.new ≡ with_region (assign (tag_of key) len self.old.metadata.region) self.old }
     {
         self.key = Some(key);
         self.tracker.renew(len);
@@ -112,9 +112,9 @@ impl<A: Archive, F: Frame> RegionCell<A, F> {
     /// `sub` round the first one, which the caller has to fetch and store, or to fail. It takes its memory from the room,
     /// where there is any, and else may be refused for want of memory, with all as before.
     pub fn claim(&mut self, sub: ByteRange) -> Result<Claim, AllocError>
-        requires { LiesInRange sub self.old.note }
-        ensures ok { OnOk result (self.new ≡ record (with_region (claim self.old.note.range sub self.old.note.region) self.old) { spare = self.old.spare - 1 }) }
-        ensures claim { IfOk result (λ c. c ≡ new_claim self.old.note.range sub self.old.note.region) }
+        requires { LiesInRange sub self.old.metadata }
+        ensures ok { OnOk result (self.new ≡ record (with_region (claim self.old.metadata.range sub self.old.metadata.region) self.old) { spare = self.old.spare - 1 }) }
+        ensures claim { IfOk result (λ c. c ≡ new_claim self.old.metadata.range sub self.old.metadata.region) }
         ensures err { OnErr result (self.new ≡ self.old) }
         ensures room { 0 < self.old.spare → IsOk result }
     {
@@ -129,17 +129,17 @@ impl<A: Archive, F: Frame> RegionCell<A, F> {
     /// `Waiting` and `Failed` come exactly by the ticket's status, and `FrameFault` only where the frame's count of failures
     /// rose in this call. After another answer than `Copied` `out` may hold anything.
     pub fn copy(&mut self, ticket: u32, out: &mut [u8]) -> Taken
-        requires ticket { IsSome (ticket_of ticket self.old.note.region.tracker) }
-        requires len { IfSome (ticket_of ticket self.old.note.region.tracker) (λ k. length out.old ≡ k.end - k.start) }
-        ensures same { self.new ≡ with_frame self.new.note.frame self.old }
-        ensures frame { FrameStays self.old.note.frame self.new.note.frame }
-        ensures waiting { IfSome (ticket_of ticket self.old.note.region.tracker) (λ k. (result ≡ Taken.Waiting) ↔ (status k self.old.note.region.tracker ≡ status_of.Waiting)) }
-        ensures failed { IfSome (ticket_of ticket self.old.note.region.tracker) (λ k. (result ≡ Taken.Failed) ↔ (status k self.old.note.region.tracker ≡ status_of.Failed)) }
-        ensures ready { IfSome (ticket_of ticket self.old.note.region.tracker) (λ k. ((result ≡ Taken.Copied) ⊎ (result ≡ Taken.FrameFault)) ↔ (status k self.old.note.region.tracker ≡ status_of.Ready)) }
-        ensures fault { result ≡ Taken.FrameFault → Faulted self.old.note.frame self.new.note.frame }
-        ensures steady { IsTrue self.old.note.frame.steady → result ≢ Taken.FrameFault }
-        ensures bytes { IsTrue self.old.note.frame.tells → result ≡ Taken.Copied → IfSome (ticket_of ticket self.old.note.region.tracker) (λ k. out.new ≡ slice_of self.old.bytes k.start (k.end - k.start)) }
-        ensures content { IsTrue A.tells → IsTrue self.old.note.frame.tells → result ≡ Taken.Copied → IfSome (ticket_of ticket self.old.note.region.tracker) (λ k. out.new ≡ slice_of (region_bytes (content A.blobs) self.old.note.frame.size self.old.note.region.tag) k.start (k.end - k.start)) }
+        requires ticket { IsSome (ticket_of ticket self.old.metadata.region.tracker) }
+        requires len { IfSome (ticket_of ticket self.old.metadata.region.tracker) (λ k. length out.old ≡ k.end - k.start) }
+        ensures same { self.new ≡ with_frame self.new.metadata.frame self.old }
+        ensures frame { FrameStays self.old.metadata.frame self.new.metadata.frame }
+        ensures waiting { IfSome (ticket_of ticket self.old.metadata.region.tracker) (λ k. (result ≡ Taken.Waiting) ↔ (status k self.old.metadata.region.tracker ≡ status_of.Waiting)) }
+        ensures failed { IfSome (ticket_of ticket self.old.metadata.region.tracker) (λ k. (result ≡ Taken.Failed) ↔ (status k self.old.metadata.region.tracker ≡ status_of.Failed)) }
+        ensures ready { IfSome (ticket_of ticket self.old.metadata.region.tracker) (λ k. ((result ≡ Taken.Copied) ⊎ (result ≡ Taken.FrameFault)) ↔ (status k self.old.metadata.region.tracker ≡ status_of.Ready)) }
+        ensures fault { result ≡ Taken.FrameFault → Faulted self.old.metadata.frame self.new.metadata.frame }
+        ensures steady { IsTrue self.old.metadata.frame.steady → result ≢ Taken.FrameFault }
+        ensures bytes { IsTrue self.old.metadata.frame.tells → result ≡ Taken.Copied → IfSome (ticket_of ticket self.old.metadata.region.tracker) (λ k. out.new ≡ slice_of self.old.bytes k.start (k.end - k.start)) }
+        ensures content { IsTrue A.tells → IsTrue self.old.metadata.frame.tells → result ≡ Taken.Copied → IfSome (ticket_of ticket self.old.metadata.region.tracker) (λ k. out.new ≡ slice_of (region_bytes (content A.blobs) self.old.metadata.frame.size self.old.metadata.region.tag) k.start (k.end - k.start)) }
     {
         match self.tracker.status(ticket) {
             Status::Waiting => Taken::Waiting,
@@ -161,15 +161,15 @@ impl<A: Archive, F: Frame> RegionCell<A, F> {
     /// `FrameFault` comes only where the frame's count of failures rose in this call. After another answer than Ok `out` may
     /// hold anything.
     pub fn peek(&mut self, sub: ByteRange, out: &mut [u8]) -> Option<Result<(), FrameFault>>
-        requires sub { LiesInRange sub self.old.note }
+        requires sub { LiesInRange sub self.old.metadata }
         requires len { length out.old ≡ sub.end - sub.start }
-        ensures same { self.new ≡ with_frame self.new.note.frame self.old }
-        ensures frame { FrameStays self.old.note.frame self.new.note.frame }
-        ensures some { is_some result ≡ are_present sub self.old.note.region }
-        ensures fault { IfSome result (λ r. OnErr r (Faulted self.old.note.frame self.new.note.frame)) }
-        ensures steady { IsTrue self.old.note.frame.steady → IfSome result (λ r. IsOk r) }
-        ensures bytes { IsTrue self.old.note.frame.tells → IfSome result (λ r. OnOk r (out.new ≡ slice_of self.old.bytes sub.start (sub.end - sub.start))) }
-        ensures content { IsTrue A.tells → IsTrue self.old.note.frame.tells → IfSome result (λ r. OnOk r (out.new ≡ slice_of (region_bytes (content A.blobs) self.old.note.frame.size self.old.note.region.tag) sub.start (sub.end - sub.start))) }
+        ensures same { self.new ≡ with_frame self.new.metadata.frame self.old }
+        ensures frame { FrameStays self.old.metadata.frame self.new.metadata.frame }
+        ensures some { is_some result ≡ are_present sub self.old.metadata.region }
+        ensures fault { IfSome result (λ r. OnErr r (Faulted self.old.metadata.frame self.new.metadata.frame)) }
+        ensures steady { IsTrue self.old.metadata.frame.steady → IfSome result (λ r. IsOk r) }
+        ensures bytes { IsTrue self.old.metadata.frame.tells → IfSome result (λ r. OnOk r (out.new ≡ slice_of self.old.bytes sub.start (sub.end - sub.start))) }
+        ensures content { IsTrue A.tells → IsTrue self.old.metadata.frame.tells → IfSome result (λ r. OnOk r (out.new ≡ slice_of (region_bytes (content A.blobs) self.old.metadata.frame.size self.old.metadata.region.tag) sub.start (sub.end - sub.start))) }
     {
         if !self.tracker.has_all(sub) {
             return None;
@@ -183,16 +183,16 @@ impl<A: Archive, F: Frame> RegionCell<A, F> {
     /// `FrameFault` comes only where the frame's count of failures rose in this call. Which bytes are present, pending and
     /// absent is then as before.
     pub fn store(&mut self, gap: u32, piece: &Piece<A>) -> Result<(), FrameFault>
-        requires gap { IsSome (gap_of gap self.old.note.region.tracker) }
-        requires piece { IfSome (gap_of gap self.old.note.region.tracker) (λ g. FitsGap self.old.note.frame.size self.old.note.region.tag g piece.now) }
-        ensures rest { self.new ≡ record (with_frame self.new.note.frame (with_region self.new.note.region self.old)) { bytes = self.new.bytes } }
-        ensures frame { FrameStays self.old.note.frame self.new.note.frame }
-        ensures ok { OnOk result (IfSome (gap_of gap self.old.note.region.tracker) (λ g. self.new.note.region ≡ progress gap (g.upto + length piece.now.bytes) self.old.note.region)) }
-        ensures bytes { IsTrue self.old.note.frame.tells → OnOk result (IfSome (gap_of gap self.old.note.region.tracker) (λ g. self.new.bytes ≡ put_at g.upto piece.now.bytes self.old.bytes)) }
-        ensures err { OnErr result (self.new.note.region ≡ self.old.note.region) }
-        ensures outside { IsTrue self.old.note.frame.tells → OnErr result (IfSome (gap_of gap self.old.note.region.tracker) (λ g. SameOutside g.upto (length piece.now.bytes) self.old.bytes self.new.bytes)) }
-        ensures fault { OnErr result (Faulted self.old.note.frame self.new.note.frame) }
-        ensures steady { IsTrue self.old.note.frame.steady → IsOk result }
+        requires gap { IsSome (gap_of gap self.old.metadata.region.tracker) }
+        requires piece { IfSome (gap_of gap self.old.metadata.region.tracker) (λ g. FitsGap self.old.metadata.frame.size self.old.metadata.region.tag g piece.now) }
+        ensures rest { self.new ≡ record (with_frame self.new.metadata.frame (with_region self.new.metadata.region self.old)) { bytes = self.new.bytes } }
+        ensures frame { FrameStays self.old.metadata.frame self.new.metadata.frame }
+        ensures ok { OnOk result (IfSome (gap_of gap self.old.metadata.region.tracker) (λ g. self.new.metadata.region ≡ progress gap (g.upto + length piece.now.bytes) self.old.metadata.region)) }
+        ensures bytes { IsTrue self.old.metadata.frame.tells → OnOk result (IfSome (gap_of gap self.old.metadata.region.tracker) (λ g. self.new.bytes ≡ put_at g.upto piece.now.bytes self.old.bytes)) }
+        ensures err { OnErr result (self.new.metadata.region ≡ self.old.metadata.region) }
+        ensures outside { IsTrue self.old.metadata.frame.tells → OnErr result (IfSome (gap_of gap self.old.metadata.region.tracker) (λ g. SameOutside g.upto (length piece.now.bytes) self.old.bytes self.new.bytes)) }
+        ensures fault { OnErr result (Faulted self.old.metadata.frame self.new.metadata.frame) }
+        ensures steady { IsTrue self.old.metadata.frame.steady → IsOk result }
     {
         self.tracker.lesson();
         let bytes = piece.bytes();
@@ -205,16 +205,16 @@ impl<A: Archive, F: Frame> RegionCell<A, F> {
     /// The gap's bytes that are still pending are absent again, and the gap is closed. Each ticket that waits for one of them
     /// is marked failed.
     pub fn fail(&mut self, gap: u32)
-        requires { IsSome (gap_of gap self.old.note.region.tracker) }
-        ensures { self.new ≡ with_region (fail gap self.old.note.region) self.old }
+        requires { IsSome (gap_of gap self.old.metadata.region.tracker) }
+        ensures { self.new ≡ with_region (fail gap self.old.metadata.region) self.old }
     {
         self.tracker.fail(gap);
     }
 
     /// Forgets the ticket.
     pub fn leave(&mut self, ticket: u32)
-        requires { IsSome (ticket_of ticket self.old.note.region.tracker) }
-        ensures { self.new ≡ with_region (leave ticket self.old.note.region) self.old }
+        requires { IsSome (ticket_of ticket self.old.metadata.region.tracker) }
+        ensures { self.new ≡ with_region (leave ticket self.old.metadata.region) self.old }
     {
         self.tracker.leave(ticket);
     }

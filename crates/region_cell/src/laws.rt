@@ -5,7 +5,7 @@ ghost use Rattle.region_cell.specs.Laws.{RangedStays, FilledStays, LenStays};
 
 use sparse_tracker::claim_places;
 
-/// Each call keeps the order of letters in each aligned range, and the marks of tickets.
+/// Each call keeps the order of states in each aligned range, and the marks of tickets.
 pub fn ranged_stays()
     ensures { RangedStays }
 {
@@ -17,7 +17,7 @@ pub fn filled_stays()
     ensures { (files : ℕ → ℕ → List ℕ) (size : ℕ) → FilledStays files size }
 {}
 
-/// No call but a new key changes the number of letters.
+/// No call but a new key changes the number of states.
 pub fn len_stays()
     ensures { LenStays }
 {}

@@ -116,7 +116,7 @@ const CONFIG: Config = Config {
 fn first<F: Frame>(alloc: Global, frame: F, table: &PartTable<Example>) -> RegionCell<Example, F>
     requires size { F.size frame ≡ 8192 }
     requires table { (table.now.number ≡ 0) × (0 < length table.now.files) × (file_length table.now 0 ≡ 10000) }
-    ensures { IsAt fresh result.note }
+    ensures { IsAt fresh result.metadata }
 {
     let mut cell = RegionCell::<Example, F>::new(alloc, frame, &CONFIG);
     let key = RegionKey {
@@ -133,7 +133,7 @@ fn first<F: Frame>(alloc: Global, frame: F, table: &PartTable<Example>) -> Regio
 fn last<F: Frame>(alloc: Global, frame: F, table: &PartTable<Example>) -> RegionCell<Example, F>
     requires size { F.size frame ≡ 8192 }
     requires table { (table.now.number ≡ 0) × (0 < length table.now.files) × (file_length table.now 0 ≡ 10000) }
-    ensures { IsAt short result.note }
+    ensures { IsAt short result.metadata }
 {
     let mut cell = RegionCell::<Example, F>::new(alloc, frame, &CONFIG);
     let key = RegionKey {
@@ -147,8 +147,8 @@ fn last<F: Frame>(alloc: Global, frame: F, table: &PartTable<Example>) -> Region
 }
 
 fn claim_first<F: Frame>(cell: &mut RegionCell<Example, F>) -> Result<Claim, AllocError>
-    requires { IsAt fresh cell.old.note }
-    ensures { OnOk result (IsAt claimed cell.new.note) }
+    requires { IsAt fresh cell.old.metadata }
+    ensures { OnOk result (IsAt claimed cell.new.metadata) }
 {
     cell.reserve()?;
     let claim = cell.claim(ByteRange {
@@ -162,17 +162,17 @@ fn store_first<F: Frame>(
     cell: &mut RegionCell<Example, F>,
     piece: &Piece<Example>,
 ) -> Result<(), FrameFault>
-    requires cell { IsAt claimed cell.old.note }
+    requires cell { IsAt claimed cell.old.metadata }
     requires piece { IsPieceAt 0 0 0 150 piece.now }
-    ensures ok { OnOk result (IsAt begun cell.new.note) }
-    ensures err { OnErr result (IsAt claimed cell.new.note) }
+    ensures ok { OnOk result (IsAt begun cell.new.metadata) }
+    ensures err { OnErr result (IsAt claimed cell.new.metadata) }
 {
     cell.store(0, piece)
 }
 
 fn copy_begun<F: Frame>(cell: &mut RegionCell<Example, F>) -> Taken
-    requires { IsAt begun cell.old.note }
-    ensures { IsAt begun cell.new.note }
+    requires { IsAt begun cell.old.metadata }
+    ensures { IsAt begun cell.new.metadata }
 {
     let mut out = [0; 100];
     cell.copy(0, &mut out)
@@ -183,9 +183,9 @@ fn peek_begun<F: Frame>(
     start: u64,
     out: &mut [u8],
 ) -> Option<Result<(), FrameFault>>
-    requires cell { IsAt begun cell.old.note }
+    requires cell { IsAt begun cell.old.metadata }
     requires range { (0 < length out.old) × (start + length out.old ≤ 4096) }
-    ensures { IsAt begun cell.new.note }
+    ensures { IsAt begun cell.new.metadata }
 {
     let sub = ByteRange {
         start,
@@ -195,8 +195,8 @@ fn peek_begun<F: Frame>(
 }
 
 fn join<F: Frame>(cell: &mut RegionCell<Example, F>) -> Result<Claim, AllocError>
-    requires { IsAt begun cell.old.note }
-    ensures { OnOk result (IsAt joined cell.new.note) }
+    requires { IsAt begun cell.old.metadata }
+    ensures { OnOk result (IsAt joined cell.new.metadata) }
 {
     let claim = cell.claim(ByteRange {
         start: 120,
@@ -206,16 +206,16 @@ fn join<F: Frame>(cell: &mut RegionCell<Example, F>) -> Result<Claim, AllocError
 }
 
 fn copy_joined<F: Frame>(cell: &mut RegionCell<Example, F>, out: &mut [u8]) -> Taken
-    requires cell { IsAt joined cell.old.note }
+    requires cell { IsAt joined cell.old.metadata }
     requires len { length out.old ≡ 10 }
-    ensures { IsAt joined cell.new.note }
+    ensures { IsAt joined cell.new.metadata }
 {
     cell.copy(1, out)
 }
 
 fn lose<F: Frame>(cell: &mut RegionCell<Example, F>) -> Taken
-    requires { IsAt joined cell.old.note }
-    ensures { IsAt lost cell.new.note }
+    requires { IsAt joined cell.old.metadata }
+    ensures { IsAt lost cell.new.metadata }
 {
     cell.fail(0);
     let mut out = [0; 100];
@@ -223,7 +223,7 @@ fn lose<F: Frame>(cell: &mut RegionCell<Example, F>) -> Taken
 }
 
 fn claim_again<F: Frame>(cell: &mut RegionCell<Example, F>) -> Result<Claim, AllocError>
-    requires { IsAt lost cell.old.note }
+    requires { IsAt lost cell.old.metadata }
 {
     cell.claim(ByteRange {
         start: 100,
@@ -232,8 +232,8 @@ fn claim_again<F: Frame>(cell: &mut RegionCell<Example, F>) -> Result<Claim, All
 }
 
 fn claim_last<F: Frame>(cell: &mut RegionCell<Example, F>) -> Result<Claim, AllocError>
-    requires { IsAt short cell.old.note }
-    ensures { OnOk result (IsAt short_claimed cell.new.note) }
+    requires { IsAt short cell.old.metadata }
+    ensures { OnOk result (IsAt short_claimed cell.new.metadata) }
 {
     let claim = cell.claim(ByteRange { start: 0, end: 10 })?;
     Ok(claim)
@@ -243,9 +243,9 @@ fn store_inside<F: Frame>(
     cell: &mut RegionCell<Example, F>,
     piece: &Piece<Example>,
 ) -> Result<(), FrameFault>
-    requires cell { IsAt short_claimed cell.old.note }
+    requires cell { IsAt short_claimed cell.old.metadata }
     requires piece { IsPieceAt 0 0 8192 1000 piece.now }
-    ensures { OnOk result (IsAt half cell.new.note) }
+    ensures { OnOk result (IsAt half cell.new.metadata) }
 {
     cell.store(0, piece)
 }
@@ -254,9 +254,9 @@ fn store_to_the_end<F: Frame>(
     cell: &mut RegionCell<Example, F>,
     piece: &Piece<Example>,
 ) -> Result<(), FrameFault>
-    requires cell { IsAt half cell.old.note }
+    requires cell { IsAt half cell.old.metadata }
     requires piece { IsPieceAt 0 0 9192 808 piece.now }
-    ensures { OnOk result (IsAt whole cell.new.note) }
+    ensures { OnOk result (IsAt whole cell.new.metadata) }
 {
     cell.store(0, piece)
 }
@@ -265,7 +265,7 @@ fn read_the_end<F: Frame>(
     cell: &mut RegionCell<Example, F>,
     out: &mut [u8],
 ) -> Option<Result<(), FrameFault>>
-    requires cell { IsAt whole cell.old.note }
+    requires cell { IsAt whole cell.old.metadata }
     requires len { length out.old ≡ 8 }
 {
     cell.leave(0);

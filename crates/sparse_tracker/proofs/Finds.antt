@@ -6,7 +6,7 @@ use Rattle.std.proofs.lemmas.Bool.{cases_Bool}
 use Rattle.std.proofs.lemmas.Bool.Decides.{nat_tests}
 use Rattle.sparse_tracker.specs.declared.gaps.OpenGap.{OpenGap}
 use Rattle.sparse_tracker.specs.declared.tickets.Ticket.{Ticket}
-use Rattle.sparse_tracker.specs.Letters.{move_gap, without_gap, without_ticket}
+use Rattle.sparse_tracker.specs.ByteStates.{move_gap, without_gap, without_ticket}
 
 pub found : {X : Type 0} (p : X → Bool) (xs : List X) (d : X) → prefix_len (λ x. not (p x)) xs < length xs → find p xs ≡ Some (get_or xs (prefix_len (λ x. not (p x)) xs) d)
 found p [] d h = absurd (omega arith)

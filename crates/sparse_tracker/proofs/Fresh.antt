@@ -4,7 +4,7 @@ use Rattle.std.specs.Prelude.{◌==◌, if◌then◌else◌}
 use Rattle.std.specs.List.{list_any}
 use Rattle.std.proofs.lemmas.Bool.{cases_Bool, cases_lt}
 use Rattle.std.proofs.lemmas.Bool.Decides.{nat_tests}
-use Rattle.sparse_tracker.specs.Letters.{least_from, least_unused}
+use Rattle.sparse_tracker.specs.ByteStates.{least_from, least_unused}
 use Rattle.sparse_tracker.specs.Kept.{AllDiffer}
 
 abbrev pub used_by : List ℕ → ℕ → Bool

@@ -8,9 +8,9 @@ use Rattle.region_ranges.specs.declared.ranges.ByteRange.{ByteRange}
 use Rattle.region_ranges.specs.Ranges.{has}
 use Rattle.sparse_tracker.specs.declared.gaps.OpenGap.{OpenGap}
 use Rattle.sparse_tracker.specs.declared.tickets.Ticket.{Ticket}
-use Rattle.sparse_tracker.specs.Letters.{Letter, pending}
-use Rattle.sparse_tracker.specs.Kept.{letter_at, letters_of, in_gap, in_any, AllTaken, AllApart, AllDiffer, AllInside, IsStored, GapsFit, IsGood}
-use Rattle.sparse_tracker.proofs.Ties.{seen, length-letters}
+use Rattle.sparse_tracker.specs.ByteStates.{ByteState, pending}
+use Rattle.sparse_tracker.specs.Kept.{byte_state_at, byte_states_of, in_gap, in_any, AllTaken, AllApart, AllDiffer, AllInside, IsStored, GapsFit, IsGood}
+use Rattle.sparse_tracker.proofs.Ties.{seen, length-byte_states}
 
 pub slot_in : {X : Type 0} (f : ℕ → X) (a n i : ℕ) → i < n → slice_get (map f (range_with_len a n)) i ≡ Some (f (a + i))
 slot_in f a zero i h = absurd (omega arith)
@@ -22,7 +22,7 @@ slot_past f a zero i h = refl
 slot_past f a (suc n) zero h = absurd (omega arith)
 slot_past f a (suc n) (suc i) h = slot_past f (a + 1) n i (omega arith)
 
-pub slot_is : (f : ℕ → Letter) (n i : ℕ) (l : Letter) → slice_get (map f (range_with_len 0 n)) i ≡ Some l → (i < n) × (f i ≡ l)
+pub slot_is : (f : ℕ → ByteState) (n i : ℕ) (l : ByteState) → slice_get (map f (range_with_len 0 n)) i ≡ Some l → (i < n) × (f i ≡ l)
 slot_is f n i l e = elim (cases_lt i n) [
   | inl h ↦ let z : 0 + i ≡ i = omega arith in let s : Some (f i) ≡ Some l = ap (λ (k : ℕ). Some (f k)) (sym z) ∙ sym (slot_in f 0 n i h) ∙ e in (h, cc)
   | inr h ↦ absurd (let s : None ≡ Some l = sym (slot_past f 0 n i h) ∙ e in cc)
@@ -54,15 +54,15 @@ held_by (x ∷ xs) (suc j) g i e h = elim (cases_Bool (in_gap x i)) [
   | inr k ↦ rw (k, held_by xs j g i e h) refl
 ]
 
-pub letter_of : (taken : List ByteRange) (gs : List OpenGap) (j : ℕ) (g : OpenGap) (i : ℕ) → AllApart gs → slice_get gs j ≡ Some g → in_gap g i ≡ true → letter_at taken gs i ≡ pending g.id
-letter_of taken [] j g i a e h = absurd (cc)
-letter_of taken (x ∷ xs) zero g i a e h =
+pub byte_state_of : (taken : List ByteRange) (gs : List OpenGap) (j : ℕ) (g : OpenGap) (i : ℕ) → AllApart gs → slice_get gs j ≡ Some g → in_gap g i ≡ true → byte_state_at taken gs i ≡ pending g.id
+byte_state_of taken [] j g i a e h = absurd (cc)
+byte_state_of taken (x ∷ xs) zero g i a e h =
     let same : x ≡ g = cc in
     let k : in_gap x i ≡ true = ap (λ (y : OpenGap). in_gap y i) same ∙ h in
     rw k (ap (λ (y : OpenGap). pending y.id) same)
-letter_of taken (x ∷ xs) (suc j) g i a e h = elim (cases_Bool (in_gap x i)) [
+byte_state_of taken (x ∷ xs) (suc j) g i a e h = elim (cases_Bool (in_gap x i)) [
   | inl k ↦ absurd (let w : true ≡ false = sym (held_by xs j g i e h) ∙ a.0 i k in cc)
-  | inr k ↦ rw k (letter_of taken xs j g i a.1 e h)
+  | inr k ↦ rw k (byte_state_of taken xs j g i a.1 e h)
 ]
 
 pub only_one : (gs : List OpenGap) (j k : ℕ) (g h : OpenGap) (i : ℕ) → AllApart gs → slice_get gs j ≡ Some g → slice_get gs k ≡ Some h → in_gap g i ≡ true → in_gap h i ≡ true → j ≡ k
@@ -78,7 +78,7 @@ only_one (x ∷ xs) (suc j) zero g h i a e f p q =
     absurd (let w : true ≡ false = sym (held_by xs j g i e p) ∙ a.0 i r in cc)
 only_one (x ∷ xs) (suc j) (suc k) g h i a e f p q = ap suc (only_one xs j k g h i a.1 e f p q)
 
-pub owner : (taken : List ByteRange) (gs : List OpenGap) (i h : ℕ) → letter_at taken gs i ≡ pending h → (j : ℕ) × (g : OpenGap) × (slice_get gs j ≡ Some g) × (g.id ≡ h) × (g.upto ≤ i) × (i < g.end)
+pub owner : (taken : List ByteRange) (gs : List OpenGap) (i h : ℕ) → byte_state_at taken gs i ≡ pending h → (j : ℕ) × (g : OpenGap) × (slice_get gs j ≡ Some g) × (g.id ≡ h) × (g.upto ≤ i) × (i < g.end)
 owner taken [] i h e = elim (cases_Bool (has taken i)) [
   | inl k ↦ absurd (let r = rw k at e in cc)
   | inr k ↦ absurd (let r = rw k at e in cc)
@@ -120,8 +120,8 @@ slots_differ f (x ∷ xs) (suc j) zero a b d e g h =
 slots_differ f (x ∷ xs) (suc j) (suc k) a b d e g h = ap suc (slots_differ f xs j k a b d.1 e g h)
 
 module _ (first len : ℕ) (taken : List ByteRange) (gaps : List OpenGap) (ks : List Ticket) (s : IsStored first len taken gaps ks) where
-  count : length (letters_of len taken gaps) ≡ len
-  count = length-letters len (letter_at taken gaps) 0
+  count : length (byte_states_of len taken gaps) ≡ len
+  count = length-byte_states len (byte_state_at taken gaps) 0
 
   holds : (g : OpenGap) (i : ℕ) → g.upto ≤ i → i < g.end → in_gap g i ≡ true
   holds g i a b = grind (arith, nat_tests)
@@ -130,11 +130,11 @@ module _ (first len : ℕ) (taken : List ByteRange) (gaps : List OpenGap) (ks : 
   fit = record {
     bounds = λ j g e. rw count (gap_bounds len taken gaps j g s.gaps e);
     apart = λ j k i g h e f a b c d. only_one gaps j k g h i s.apart e f (holds g i a b) (holds h i c d);
-    letters = λ j g i e a b.
+    byte_states = λ j g i e a b.
         let z : 0 + i ≡ i = omega arith in
         let n = gap_bounds len taken gaps j g s.gaps e in
-        slot_in (letter_at taken gaps) 0 len i (omega (arith, n)) ∙ ap (λ (k : ℕ). Some (letter_at taken gaps k)) z ∙ ap (λ (l : Letter). Some l) (letter_of taken gaps j g i s.apart e (holds g i a b));
-    owned = λ i h e. owner taken gaps i h (slot_is (letter_at taken gaps) len i (pending h) e).1;
+        slot_in (byte_state_at taken gaps) 0 len i (omega (arith, n)) ∙ ap (λ (k : ℕ). Some (byte_state_at taken gaps k)) z ∙ ap (λ (l : ByteState). Some l) (byte_state_of taken gaps j g i s.apart e (holds g i a b));
+    owned = λ i h e. owner taken gaps i h (slot_is (byte_state_at taken gaps) len i (pending h) e).1;
   }
 
   pub good : IsGood (seen len taken gaps ks)

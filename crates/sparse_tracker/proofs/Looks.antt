@@ -1,4 +1,4 @@
--- What is read from the letters of a sub-range, and what the code looks at in place of them.
+-- What is read from the states of a sub-range, and what the code looks at in place of them.
 use Rattle.std.proofs.Common.{arith, ◌≡◌, ◌<◌, ◌≤◌, ◌+◌, ◌-◌, ℕ, zero, suc, Bool, true, false, List, [], ◌∷◌, sym, ◌∙◌, ap, inl, inr, refl, drop, take, Option, Some, None}
 use Rattle.std.specs.Prelude.{max, not, map, find, if◌then◌else◌, is_some, IfSome, IfNone}
 use Rattle.std.specs.List.{list_any, list_all, range_with_len}
@@ -9,8 +9,8 @@ use Rattle.region_ranges.specs.Ranges.{has, IsFirstRun}
 use Rattle.sparse_tracker.specs.declared.gaps.OpenGap.{OpenGap}
 use Rattle.sparse_tracker.specs.declared.tickets.Ticket.{Ticket}
 use Rattle.sparse_tracker.specs.declared.status.Status.TheVariants.{Ready, Waiting, Failed, Open}
-use Rattle.sparse_tracker.specs.Letters.{Letter, absent, pending, present, is_absent, is_present, is_under, letters_in, ids, status_of, fail_ticket}
-use Rattle.sparse_tracker.specs.Kept.{letter_at, letters_of, in_gap, in_any, meets, any_free, mark, AllTaken, AllApart, AllDiffer, AllInside}
+use Rattle.sparse_tracker.specs.ByteStates.{ByteState, absent, pending, present, is_absent, is_present, is_under, byte_states_in, ids, status_of, fail_ticket}
+use Rattle.sparse_tracker.specs.Kept.{byte_state_at, byte_states_of, in_gap, in_any, meets, any_free, mark, AllTaken, AllApart, AllDiffer, AllInside}
 use Rattle.sparse_tracker.proofs.Ties.{take_range, absent_is}
 use Rattle.sparse_tracker.proofs.Moves.{outside, under_is, is_id}
 
@@ -19,8 +19,8 @@ drop_range f a n zero h = let e : a + 0 ≡ a = omega arith in let k : n - 0 ≡
 drop_range f a zero (suc m) h = absurd (omega arith)
 drop_range f a (suc n) (suc m) h = let e : a + 1 + m ≡ a + suc m = omega arith in let k : n - m ≡ suc n - suc m = omega arith in drop_range f (a + 1) n m (omega arith) ∙ ap (λ (s : ℕ). map f (range_with_len s (n - m))) e ∙ ap (λ (s : ℕ). map f (range_with_len (a + suc m) s)) k
 
--- the letters of a sub-range, place by place
-pub cut : (f : ℕ → Letter) (len start end : ℕ) → start ≤ end → end ≤ len → letters_in start end (map f (range_with_len 0 len)) ≡ map f (range_with_len start (end - start))
+-- the states of a sub-range, place by place
+pub cut : (f : ℕ → ByteState) (len start end : ℕ) → start ≤ end → end ≤ len → byte_states_in start end (map f (range_with_len 0 len)) ≡ map f (range_with_len start (end - start))
 cut f len start end h k =
     let z : 0 + start ≡ start = omega arith in
     ap (take (end - start)) (drop_range f 0 len start (omega arith))
@@ -55,10 +55,10 @@ any_same p f q a (suc n) h = rw (h a, any_same p f q (a + 1) n h) refl
 
 -- whether a byte is absent is whether a place is not taken
 pub lacks_is : (len : ℕ) (taken : List ByteRange) (gaps : List OpenGap) (sub : ByteRange) → AllTaken len taken gaps → sub.start ≤ sub.end → sub.end ≤ len
-    → list_any is_absent (letters_in sub.start sub.end (letters_of len taken gaps)) ≡ any_free taken sub
+    → list_any is_absent (byte_states_in sub.start sub.end (byte_states_of len taken gaps)) ≡ any_free taken sub
 lacks_is len taken gaps sub t h k =
-    ap (list_any is_absent) (cut (letter_at taken gaps) len sub.start sub.end h k)
-    ∙ any_same is_absent (letter_at taken gaps) (λ i. not (has taken i)) sub.start (sub.end - sub.start) (λ i. absent_is len taken gaps i t)
+    ap (list_any is_absent) (cut (byte_state_at taken gaps) len sub.start sub.end h k)
+    ∙ any_same is_absent (byte_state_at taken gaps) (λ i. not (has taken i)) sub.start (sub.end - sub.start) (λ i. absent_is len taken gaps i t)
 
 -- what the first run without a member tells of it
 pub free_is : (rs : List ByteRange) (sub : ByteRange) (o : Option ByteRange) → IfSome o (IsFirstRun (has rs) sub sub.start) → IfNone o ((i : ℕ) → sub.start ≤ i → sub.start ≤ i → i < sub.end → has rs i ≡ true) → is_some o ≡ any_free rs sub
@@ -111,71 +111,71 @@ some_meet len taken sub (g ∷ gs) t n h = elim (cases_Bool (meets sub g)) [
       record { at = m.at; within = m.within; held = k }
 ]
 
-pub held_letter : (taken : List ByteRange) (gs : List OpenGap) (i : ℕ) → in_any gs i ≡ true → is_present (letter_at taken gs i) ≡ false
-held_letter taken [] i h = absurd (cc)
-held_letter taken (g ∷ gs) i h = elim (cases_Bool (in_gap g i)) [
+pub held_byte_state : (taken : List ByteRange) (gs : List OpenGap) (i : ℕ) → in_any gs i ≡ true → is_present (byte_state_at taken gs i) ≡ false
+held_byte_state taken [] i h = absurd (cc)
+held_byte_state taken (g ∷ gs) i h = elim (cases_Bool (in_gap g i)) [
   | inl e ↦ rw e refl
-  | inr e ↦ let r = rw e at h in rw e (held_letter taken gs i r)
+  | inr e ↦ let r = rw e at h in rw e (held_byte_state taken gs i r)
 ]
 
 -- ---- the status of a ticket
 
-pub lacks_some : (ls : List Letter) → list_any is_absent ls ≡ true → list_all is_present ls ≡ false
+pub lacks_some : (ls : List ByteState) → list_any is_absent ls ≡ true → list_all is_present ls ≡ false
 lacks_some [] h = absurd (cc)
 lacks_some (absent ∷ ls) h = refl
 lacks_some (pending g ∷ ls) h = refl
 lacks_some (present ∷ ls) h = lacks_some ls h
 
-pub status_lost : (ls : List Letter) (failed : Bool) → list_any is_absent ls ≡ true → status_of ls failed ≡ (if failed then Failed else Open)
+pub status_lost : (ls : List ByteState) (failed : Bool) → list_any is_absent ls ≡ true → status_of ls failed ≡ (if failed then Failed else Open)
 status_lost ls failed h = rw (lacks_some ls h, h) refl
 
 module _ (len : ℕ) (taken : List ByteRange) (gaps : List OpenGap) (sub : ByteRange) (t : AllTaken len taken gaps) (some : sub.start < sub.end) (most : sub.end ≤ len) (full : any_free taken sub ≡ false) where
-  pub status_waiting : (failed : Bool) → list_any (meets sub) gaps ≡ true → status_of (letters_in sub.start sub.end (letters_of len taken gaps)) failed ≡ Waiting
+  pub status_waiting : (failed : Bool) → list_any (meets sub) gaps ≡ true → status_of (byte_states_in sub.start sub.end (byte_states_of len taken gaps)) failed ≡ Waiting
   status_waiting failed h =
-      let ls = letters_in sub.start sub.end (letters_of len taken gaps) in
+      let ls = byte_states_in sub.start sub.end (byte_states_of len taken gaps) in
       let m = some_meet len taken sub gaps t some h in
       let a : list_any is_absent ls ≡ false = lacks_is len taken gaps sub t (omega arith) most ∙ full in
-      let b : list_all is_present ls ≡ false = ap (list_all is_present) (cut (letter_at taken gaps) len sub.start sub.end (omega arith) most) ∙ not_all is_present (letter_at taken gaps) sub.start (sub.end - sub.start) m.at m.within.0 (omega (arith, m.within)) (held_letter taken gaps m.at m.held) in
+      let b : list_all is_present ls ≡ false = ap (list_all is_present) (cut (byte_state_at taken gaps) len sub.start sub.end (omega arith) most) ∙ not_all is_present (byte_state_at taken gaps) sub.start (sub.end - sub.start) m.at m.within.0 (omega (arith, m.within)) (held_byte_state taken gaps m.at m.held) in
       rw (b, a) refl
 
-  pub status_ready : (failed : Bool) → list_any (meets sub) gaps ≡ false → status_of (letters_in sub.start sub.end (letters_of len taken gaps)) failed ≡ Ready
+  pub status_ready : (failed : Bool) → list_any (meets sub) gaps ≡ false → status_of (byte_states_in sub.start sub.end (byte_states_of len taken gaps)) failed ≡ Ready
   status_ready failed h =
-      let ls = letters_in sub.start sub.end (letters_of len taken gaps) in
-      let here : (i : ℕ) → sub.start ≤ i → i < sub.start + (sub.end - sub.start) → is_present (letter_at taken gaps i) ≡ true = λ i p q.
+      let ls = byte_states_in sub.start sub.end (byte_states_of len taken gaps) in
+      let here : (i : ℕ) → sub.start ≤ i → i < sub.start + (sub.end - sub.start) → is_present (byte_state_at taken gaps i) ≡ true = λ i p q.
       let e : has taken i ≡ true = free_none taken sub i full p (omega arith) in
-      let l : letter_at taken gaps i ≡ (if has taken i then present else absent) = outside taken gaps i (none_meet sub gaps i h p (omega arith)) in
+      let l : byte_state_at taken gaps i ≡ (if has taken i then present else absent) = outside taken gaps i (none_meet sub gaps i h p (omega arith)) in
       rw (l, e) refl in
-      let b : list_all is_present ls ≡ true = ap (list_all is_present) (cut (letter_at taken gaps) len sub.start sub.end (omega arith) most) ∙ all_of is_present (letter_at taken gaps) sub.start (sub.end - sub.start) here in
+      let b : list_all is_present ls ≡ true = ap (list_all is_present) (cut (byte_state_at taken gaps) len sub.start sub.end (omega arith) most) ∙ all_of is_present (byte_state_at taken gaps) sub.start (sub.end - sub.start) here in
       rw b refl
 
 -- ---- the tickets that a failed gap marks
 
 module _ (g len : ℕ) (taken : List ByteRange) (gaps : List OpenGap) (o : OpenGap) (apart : AllApart gaps) (differ : AllDiffer (ids gaps)) (f : find (is_id g) gaps ≡ Some o) (some : o.upto < o.end) where
-  pub mark_is : (k : Ticket) → k.start < k.end → k.end ≤ len → mark o k ≡ fail_ticket g (letters_of len taken gaps) k
+  pub mark_is : (k : Ticket) → k.start < k.end → k.end ≤ len → mark o k ≡ fail_ticket g (byte_states_of len taken gaps) k
   mark_is k s m =
-      let c : list_any (is_under g) (letters_in k.start k.end (letters_of len taken gaps)) ≡ list_any (is_under g) (map (letter_at taken gaps) (range_with_len k.start (k.end - k.start))) = ap (list_any (is_under g)) (cut (letter_at taken gaps) len k.start k.end (omega arith) m) in
+      let c : list_any (is_under g) (byte_states_in k.start k.end (byte_states_of len taken gaps)) ≡ list_any (is_under g) (map (byte_state_at taken gaps) (range_with_len k.start (k.end - k.start))) = ap (list_any (is_under g)) (cut (byte_state_at taken gaps) len k.start k.end (omega arith) m) in
       elim (cases_Bool (meets (record { start = k.start; end = k.end }) o)) [
         | inl e ↦
             let low : o.upto < k.end = grind (arith, nat_tests) in
             let high : k.start < o.end = grind (arith, nat_tests) in
-            let u : is_under g (letter_at taken gaps (max k.start o.upto)) ≡ true = under_is g taken gaps o (max k.start o.upto) apart differ f ∙ (let w : in_gap o (max k.start o.upto) ≡ true = grind (arith, nat_tests) in w) in
-            let a = any_at (is_under g) (letter_at taken gaps) k.start (k.end - k.start) (max k.start o.upto) (omega arith) (omega arith) u in
+            let u : is_under g (byte_state_at taken gaps (max k.start o.upto)) ≡ true = under_is g taken gaps o (max k.start o.upto) apart differ f ∙ (let w : in_gap o (max k.start o.upto) ≡ true = grind (arith, nat_tests) in w) in
+            let a = any_at (is_under g) (byte_state_at taken gaps) k.start (k.end - k.start) (max k.start o.upto) (omega arith) (omega arith) u in
             rw (e, c, a) refl
         | inr e ↦
-            let a = any_none (is_under g) (letter_at taken gaps) k.start (k.end - k.start) (λ i p q. under_is g taken gaps o i apart differ f ∙ (let w : in_gap o i ≡ false = grind (arith, nat_tests) in w)) in
+            let a = any_none (is_under g) (byte_state_at taken gaps) k.start (k.end - k.start) (λ i p q. under_is g taken gaps o i apart differ f ∙ (let w : in_gap o i ≡ false = grind (arith, nat_tests) in w)) in
             rw (e, c, a) refl
       ]
 
-  pub marked_are : (ks : List Ticket) → AllInside len ks → map (mark o) ks ≡ map (fail_ticket g (letters_of len taken gaps)) ks
+  pub marked_are : (ks : List Ticket) → AllInside len ks → map (mark o) ks ≡ map (fail_ticket g (byte_states_of len taken gaps)) ks
   marked_are [] a = refl
   marked_are (k ∷ ks) a = rw (mark_is k a.0 a.1, marked_are ks a.2) refl
 
 -- ---- whether all bytes are present, read from the status
 
-pub waiting_lacks : (ls : List Letter) (failed : Bool) → status_of ls failed ≡ Waiting → list_all is_present ls ≡ false
+pub waiting_lacks : (ls : List ByteState) (failed : Bool) → status_of ls failed ≡ Waiting → list_all is_present ls ≡ false
 waiting_lacks ls failed e = elim (cases_Bool (list_all is_present ls)) [ inl t ↦ absurd (let r = rw t at e in cc) | inr t ↦ t ]
 
-pub ready_has : (ls : List Letter) → status_of ls false ≡ Ready → list_all is_present ls ≡ true
+pub ready_has : (ls : List ByteState) → status_of ls false ≡ Ready → list_all is_present ls ≡ true
 ready_has ls e = elim (cases_Bool (list_all is_present ls)) [
   | inl t ↦ t
   | inr t ↦ elim (cases_Bool (list_any is_absent ls)) [

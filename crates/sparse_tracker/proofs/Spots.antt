@@ -10,7 +10,7 @@ use Rattle.std.proofs.lemmas.Option.{slice_get-map}
 use Rattle.region_ranges.specs.declared.ranges.ByteRange.{ByteRange}
 use Rattle.region_ranges.specs.Ranges.{inside, first_run}
 use Rattle.sparse_tracker.specs.declared.gaps.OpenGap.{OpenGap}
-use Rattle.sparse_tracker.specs.Letters.{Letter, absent, pending, present, is_absent, is_under, change_from, absent_run, not_behind, claimed_run, open_gap_at, lacks, Tracker, gap_of, complete_at, progress, wait_if_pending}
+use Rattle.sparse_tracker.specs.ByteStates.{ByteState, absent, pending, present, is_absent, is_under, change_from, absent_run, not_behind, claimed_run, open_gap_at, lacks, Tracker, gap_of, complete_at, progress, wait_if_pending}
 use Rattle.sparse_tracker.specs.Places.{IsFirstAbsent, IsRunRound, ClaimPlaces, PresentStays}
 
 -- ---- the first run of a list of flags
@@ -155,9 +155,9 @@ module _ (free : List Bool) (start from : ℕ) where
         | inr h ↦ absurd (let t : nat_lt (max from start + n) (length free) ≡ false = grind (arith, nat_tests) in let r = rw t at e in cc)
       ]
 
--- ---- flags and letters
+-- ---- flags and states
 
-pub flag_true : (ls : List Letter) (n i : ℕ) → i < n → n ≤ length ls → get_or (map is_absent (take n ls)) i false ≡ true → slice_get ls i ≡ Some absent
+pub flag_true : (ls : List ByteState) (n i : ℕ) → i < n → n ≤ length ls → get_or (map is_absent (take n ls)) i false ≡ true → slice_get ls i ≡ Some absent
 flag_true [] n i h k e = absurd (omega arith)
 flag_true (l ∷ ls) zero i h k e = absurd (omega arith)
 flag_true (absent ∷ ls) (suc n) zero h k e = refl
@@ -165,7 +165,7 @@ flag_true (pending g ∷ ls) (suc n) zero h k e = absurd (cc)
 flag_true (present ∷ ls) (suc n) zero h k e = absurd (cc)
 flag_true (l ∷ ls) (suc n) (suc i) h k e = flag_true ls n i (omega arith) (omega arith) e
 
-pub flag_false : (ls : List Letter) (n i : ℕ) → i < n → n ≤ length ls → get_or (map is_absent (take n ls)) i false ≡ false → slice_get ls i ≢ Some absent
+pub flag_false : (ls : List ByteState) (n i : ℕ) → i < n → n ≤ length ls → get_or (map is_absent (take n ls)) i false ≡ false → slice_get ls i ≢ Some absent
 flag_false [] n i h k e = absurd (omega arith)
 flag_false (l ∷ ls) zero i h k e = absurd (omega arith)
 flag_false (absent ∷ ls) (suc n) zero h k e = absurd (cc)
@@ -173,7 +173,7 @@ flag_false (pending g ∷ ls) (suc n) zero h k e = λ w. cc
 flag_false (present ∷ ls) (suc n) zero h k e = λ w. cc
 flag_false (l ∷ ls) (suc n) (suc i) h k e = flag_false ls n i (omega arith) (omega arith) e
 
-pub length-flags : (ls : List Letter) (n : ℕ) → n ≤ length ls → length (map is_absent (take n ls)) ≡ n
+pub length-flags : (ls : List ByteState) (n : ℕ) → n ≤ length ls → length (map is_absent (take n ls)) ≡ n
 length-flags ls n h = length-map (take n ls) is_absent ∙ length-take n ls ∙ omega (arith, h)
 
 -- ---- the claim
@@ -189,11 +189,11 @@ behind_told sub run (Some r) e = elim (cases_Bool (nat_lt r.start sub.end)) [
   | inr t ↦ absurd (let k = rw t at e in cc)
 ]
 
-pub claim_some : (range sub run : ByteRange) (t : Tracker) → range.start ≤ sub.start → sub.start < sub.end → sub.end ≤ range.end → range.end ≤ length t.letters → claimed_run range sub t ≡ Some run → (at : ℕ) × (IsFirstAbsent t.letters sub at × IsRunRound t.letters range at run)
+pub claim_some : (range sub run : ByteRange) (t : Tracker) → range.start ≤ sub.start → sub.start < sub.end → sub.end ≤ range.end → range.end ≤ length t.byte_states → claimed_run range sub t ≡ Some run → (at : ℕ) × (IsFirstAbsent t.byte_states sub at × IsRunRound t.byte_states range at run)
 claim_some range sub run t a b c d e =
-    let k = behind_told sub run (absent_run t.letters range sub.start) e in
-    let free = map is_absent (take range.end t.letters) in
-    let l : length free ≡ range.end = length-flags t.letters range.end d in
+    let k = behind_told sub run (absent_run t.byte_states range sub.start) e in
+    let free = map is_absent (take range.end t.byte_states) in
+    let l : length free ≡ range.end = length-flags t.byte_states range.end d in
     let r = run_told free range.start sub.start run k.0 in
     let order : (sub.start ≤ r.at) × (r.at < range.end) = (omega (arith, r.place), omega (arith, r.place, l)) in
     let last : run.end ≤ range.end = omega (arith, r.within, l) in
@@ -208,14 +208,14 @@ claim_some range sub run t a b c d e =
       (
         record {
           within = (order.0, early);
-          here = flag_true t.letters range.end r.at order.1 d (r.all r.at r.within.1 r.within.2);
-          before = λ i p q. flag_false t.letters range.end i (omega (arith, q, order)) d (r.before i (omega (arith, a, p)) q);
+          here = flag_true t.byte_states range.end r.at order.1 d (r.all r.at r.within.1 r.within.2);
+          before = λ i p q. flag_false t.byte_states range.end i (omega (arith, q, order)) d (r.before i (omega (arith, a, p)) q);
         },
         record {
           within = (r.within.0, r.within.1, r.within.2, last);
-          absent_all = λ i p q. flag_true t.letters range.end i (omega (arith, q, last)) d (r.all i p q);
-          left = λ i p q. flag_false t.letters range.end i (omega (arith, q, r.within, last)) d (r.left i p q);
-          right = λ p. flag_false t.letters range.end run.end p d (r.right (omega (arith, p, l)));
+          absent_all = λ i p q. flag_true t.byte_states range.end i (omega (arith, q, last)) d (r.all i p q);
+          left = λ i p q. flag_false t.byte_states range.end i (omega (arith, q, r.within, last)) d (r.left i p q);
+          right = λ p. flag_false t.byte_states range.end run.end p d (r.right (omega (arith, p, l)));
         },
       ),
     )
@@ -231,15 +231,15 @@ pub behind_cases : (sub : ByteRange) (o : Option ByteRange) → not_behind sub o
 behind_cases sub None e = inl refl
 behind_cases sub (Some r) e = inr (behind_none sub (Some r) e (λ w. cc))
 
-pub claim_none : (range sub : ByteRange) (t : Tracker) → range.start ≤ sub.start → sub.end ≤ range.end → range.end ≤ length t.letters → claimed_run range sub t ≡ None → (i : ℕ) → sub.start ≤ i → i < sub.end → slice_get t.letters i ≢ Some absent
+pub claim_none : (range sub : ByteRange) (t : Tracker) → range.start ≤ sub.start → sub.end ≤ range.end → range.end ≤ length t.byte_states → claimed_run range sub t ≡ None → (i : ℕ) → sub.start ≤ i → i < sub.end → slice_get t.byte_states i ≢ Some absent
 claim_none range sub t a c d e i p q =
-    let free = map is_absent (take range.end t.letters) in
-    let l : length free ≡ range.end = length-flags t.letters range.end d in
-    elim (behind_cases sub (absent_run t.letters range sub.start) e) [
-      | inl n ↦ flag_false t.letters range.end i (omega (arith, q, c)) d (no_run_told free range.start sub.start n i (omega (arith, a, p)) (omega (arith, l, q, c)))
+    let free = map is_absent (take range.end t.byte_states) in
+    let l : length free ≡ range.end = length-flags t.byte_states range.end d in
+    elim (behind_cases sub (absent_run t.byte_states range sub.start) e) [
+      | inl n ↦ flag_false t.byte_states range.end i (omega (arith, q, c)) d (no_run_told free range.start sub.start n i (omega (arith, a, p)) (omega (arith, l, q, c)))
       | inr s ↦
           let r = run_told free range.start sub.start s.0 s.1 in
-          flag_false t.letters range.end i (omega (arith, q, c)) d (r.before i (omega (arith, a, p)) (omega (arith, q, s.2, r.within)))
+          flag_false t.byte_states range.end i (omega (arith, q, c)) d (r.before i (omega (arith, a, p)) (omega (arith, q, s.2, r.within)))
     ]
 
 pub claims_told : ClaimPlaces
@@ -247,40 +247,40 @@ claims_told = record { some = claim_some; none = claim_none }
 
 -- ---- what stays present
 
-pub slot_change : (f : ℕ → Letter → Letter) (a : ℕ) (ls : List Letter) (i : ℕ) (l : Letter) → slice_get ls i ≡ Some l → slice_get (change_from a f ls) i ≡ Some (f (a + i) l)
+pub slot_change : (f : ℕ → ByteState → ByteState) (a : ℕ) (ls : List ByteState) (i : ℕ) (l : ByteState) → slice_get ls i ≡ Some l → slice_get (change_from a f ls) i ≡ Some (f (a + i) l)
 slot_change f a [] i l e = absurd (cc)
-slot_change f a (x ∷ xs) zero l e = let same : x ≡ l = cc in let z : a ≡ a + 0 = omega arith in ap (λ (y : Letter). Some (f a y)) same ∙ ap (λ (k : ℕ). Some (f k l)) z
+slot_change f a (x ∷ xs) zero l e = let same : x ≡ l = cc in let z : a ≡ a + 0 = omega arith in ap (λ (y : ByteState). Some (f a y)) same ∙ ap (λ (k : ℕ). Some (f k l)) z
 slot_change f a (x ∷ xs) (suc i) l e = let s : a + 1 + i ≡ a + suc i = omega arith in slot_change f (a + 1) xs i l e ∙ ap (λ (k : ℕ). Some (f k l)) s
 
-pub progress_stays : (g to : ℕ) (t : Tracker) (i : ℕ) → slice_get t.letters i ≡ Some present → slice_get (progress g to t).letters i ≡ Some present
-progress_stays g to t i e = slot_change (λ j l. if is_under g l && nat_lt j to then present else l) 0 t.letters i present e
+pub progress_stays : (g to : ℕ) (t : Tracker) (i : ℕ) → slice_get t.byte_states i ≡ Some present → slice_get (progress g to t).byte_states i ≡ Some present
+progress_stays g to t i e = slot_change (λ j l. if is_under g l && nat_lt j to then present else l) 0 t.byte_states i present e
 
-pub complete_stays : (o : Option OpenGap) (t : Tracker) (i : ℕ) → slice_get t.letters i ≡ Some present → slice_get (complete_at o t).letters i ≡ Some present
+pub complete_stays : (o : Option OpenGap) (t : Tracker) (i : ℕ) → slice_get t.byte_states i ≡ Some present → slice_get (complete_at o t).byte_states i ≡ Some present
 complete_stays None t i e = e
 complete_stays (Some o) t i e = progress_stays o.id o.end t i e
 
-pub fail_stays : (g : ℕ) (ls : List Letter) (i : ℕ) → slice_get ls i ≡ Some present → slice_get (map (λ l. if is_under g l then absent else l) ls) i ≡ Some present
-fail_stays g ls i e = slice_get-map (λ (l : Letter). if is_under g l then absent else l) ls i ∙ ap (option_map (λ (l : Letter). if is_under g l then absent else l)) e
+pub fail_stays : (g : ℕ) (ls : List ByteState) (i : ℕ) → slice_get ls i ≡ Some present → slice_get (map (λ l. if is_under g l then absent else l) ls) i ≡ Some present
+fail_stays g ls i e = slice_get-map (λ (l : ByteState). if is_under g l then absent else l) ls i ∙ ap (option_map (λ (l : ByteState). if is_under g l then absent else l)) e
 
-pub joins_stays : (sub : ByteRange) (t : Tracker) (i : ℕ) → slice_get t.letters i ≡ Some present → slice_get (wait_if_pending sub t).letters i ≡ Some present
+pub joins_stays : (sub : ByteRange) (t : Tracker) (i : ℕ) → slice_get t.byte_states i ≡ Some present → slice_get (wait_if_pending sub t).byte_states i ≡ Some present
 joins_stays sub t i e = elim (cases_Bool (lacks sub t)) [ inl h ↦ rw h e | inr h ↦ rw h e ]
 
-pub waits_stays : (range sub : ByteRange) (t : Tracker) (o : Option ByteRange) (i : ℕ) → range.end ≤ length t.letters → claimed_run range sub t ≡ o → slice_get t.letters i ≡ Some present → slice_get (open_gap_at o t).letters i ≡ Some present
+pub waits_stays : (range sub : ByteRange) (t : Tracker) (o : Option ByteRange) (i : ℕ) → range.end ≤ length t.byte_states → claimed_run range sub t ≡ o → slice_get t.byte_states i ≡ Some present → slice_get (open_gap_at o t).byte_states i ≡ Some present
 waits_stays range sub t None i d c e = e
 waits_stays range sub t (Some run) i d c e =
-    let k = behind_told sub run (absent_run t.letters range sub.start) c in
-    let free = map is_absent (take range.end t.letters) in
-    let l : length free ≡ range.end = length-flags t.letters range.end d in
+    let k = behind_told sub run (absent_run t.byte_states range sub.start) c in
+    let free = map is_absent (take range.end t.byte_states) in
+    let l : length free ≡ range.end = length-flags t.byte_states range.end d in
     let r = run_told free range.start sub.start run k.0 in
     let out : inside run i ≡ false = elim (cases_Bool (inside run i)) [
       | inl h ↦ absurd (
           let low : run.start ≤ i = grind (arith, nat_tests) in
           let high : i < run.end = grind (arith, nat_tests) in
-          let here = flag_true t.letters range.end i (omega (arith, high, r.within, l)) d (r.all i low high) in
+          let here = flag_true t.byte_states range.end i (omega (arith, high, r.within, l)) d (r.all i low high) in
           let w : Some present ≡ Some absent = sym e ∙ here in cc)
       | inr h ↦ h
     ] in
-    slot_change _ 0 t.letters i present e ∙ (let z : 0 + i ≡ i = omega arith in rw (z, out) refl)
+    slot_change _ 0 t.byte_states i present e ∙ (let z : 0 + i ≡ i = omega arith in rw (z, out) refl)
 
 pub present_told : PresentStays
 present_told = record {
@@ -288,6 +288,6 @@ present_told = record {
   joins = joins_stays;
   progress = progress_stays;
   complete = λ g t i e. complete_stays (gap_of g t) t i e;
-  fail = λ g t i e. fail_stays g t.letters i e;
+  fail = λ g t i e. fail_stays g t.byte_states i e;
   leave = λ n t i e. e;
 }

@@ -9,12 +9,12 @@ use Rattle.region_ranges.specs.declared.ranges.ByteRange.{ByteRange}
 use Rattle.region_ranges.specs.Ranges.{has, inside}
 use Rattle.sparse_tracker.specs.declared.gaps.OpenGap.{OpenGap}
 use Rattle.sparse_tracker.specs.declared.tickets.Ticket.{Ticket}
-use Rattle.sparse_tracker.specs.Letters.{Tracker, ids, numbers, least_unused, TrackerView, move_gap, without_gap, without_ticket, progress, complete, status, ticket_of, lacks, wait_if_pending, with_ticket, pending_ticket, claimed_run, new_claim, fail, absent, present, is_under, new_tracker}
+use Rattle.sparse_tracker.specs.ByteStates.{Tracker, ids, numbers, least_unused, TrackerView, move_gap, without_gap, without_ticket, progress, complete, status, ticket_of, lacks, wait_if_pending, with_ticket, pending_ticket, claimed_run, new_claim, fail, absent, present, is_under, new_tracker}
 use Rattle.sparse_tracker.specs.declared.status.Status.{Status}
-use Rattle.sparse_tracker.specs.Kept.{letter_at, letters_of, in_gap, in_any, mark, AllTaken, AllApart, AllDiffer, AllInside, IsStored}
+use Rattle.sparse_tracker.specs.Kept.{byte_state_at, byte_states_of, in_gap, in_any, mark, AllTaken, AllApart, AllDiffer, AllInside, IsStored}
 use Rattle.sparse_tracker.proofs.Fresh.{fresh, differ_last}
-use Rattle.sparse_tracker.proofs.Ties.{seen, gap_on, all_taken, none_past, all_inside, map_same, map_range, no_letters}
-use Rattle.sparse_tracker.proofs.Moves.{is_id, moved_letters, moved_taken, moved_apart, moved_ids, outside, not_under, same_letter, found_in, others_differ}
+use Rattle.sparse_tracker.proofs.Ties.{seen, gap_on, all_taken, none_past, all_inside, map_same, map_range, no_byte_states}
+use Rattle.sparse_tracker.proofs.Moves.{is_id, moved_byte_states, moved_taken, moved_apart, moved_ids, outside, not_under, same_byte_state, found_in, others_differ}
 use Rattle.sparse_tracker.proofs.Looks.{marked_are}
 
 pub record Known (P : OpenGap → Type 0) (o : Option OpenGap) : Type 0 where
@@ -96,7 +96,7 @@ stored_moved g to first len taken gaps ks o s f low high = record {
 }
 
 pub progressed : (g to first len : ℕ) (taken : List ByteRange) (gaps : List OpenGap) (ks : List Ticket) (o : OpenGap) → IsStored first len taken gaps ks → find (is_id g) gaps ≡ Some o → o.upto ≤ to → to ≤ o.end → seen len taken (move_gap g to gaps) ks ≡ progress g to (seen len taken gaps ks)
-progressed g to first len taken gaps ks o s f low high = rw (moved_letters g to len taken gaps o s.gaps s.apart s.ids f low high) refl
+progressed g to first len taken gaps ks o s f low high = rw (moved_byte_states g to len taken gaps o s.gaps s.apart s.ids f low high) refl
 
 -- the gap that was found is not empty and ends in the tracker
 pub bounds_of : (g len : ℕ) (taken : List ByteRange) (gaps : List OpenGap) (o : OpenGap) → AllTaken len taken gaps → find (is_id g) gaps ≡ Some o → (o.upto < o.end) × (o.end ≤ len)
@@ -269,26 +269,26 @@ others_apart g (x ∷ xs) o i a f h = elim (cases_Bool (x.id == g)) [
       ]
 ]
 
-pub failed_letter : (g : ℕ) (taken less : List ByteRange) (gs : List OpenGap) (o : OpenGap) (len i : ℕ) → AllTaken len taken gs → AllApart gs → AllDiffer (ids gs) → find (is_id g) gs ≡ Some o
-    → has less i ≡ (has taken i && not (in_gap o i)) → letter_at less (without_gap g gs) i ≡ (if is_under g (letter_at taken gs i) then absent else letter_at taken gs i)
-failed_letter g taken less [] o len i t a d f h = absurd (cc)
-failed_letter g taken less (x ∷ xs) o len i t a d f h = elim (cases_Bool (x.id == g)) [
+pub failed_byte_state : (g : ℕ) (taken less : List ByteRange) (gs : List OpenGap) (o : OpenGap) (len i : ℕ) → AllTaken len taken gs → AllApart gs → AllDiffer (ids gs) → find (is_id g) gs ≡ Some o
+    → has less i ≡ (has taken i && not (in_gap o i)) → byte_state_at less (without_gap g gs) i ≡ (if is_under g (byte_state_at taken gs i) then absent else byte_state_at taken gs i)
+failed_byte_state g taken less [] o len i t a d f h = absurd (cc)
+failed_byte_state g taken less (x ∷ xs) o len i t a d f h = elim (cases_Bool (x.id == g)) [
   | inl e ↦
       let s = rw e at f in let same : x ≡ o = cc in
       let here : in_gap x i ≡ in_gap o i = ap (λ (y : OpenGap). in_gap y i) same in
       elim (cases_Bool (in_gap x i)) [
         | inl k ↦
             let n : has less i ≡ false = h ∙ rw (sym here ∙ k, t.2 i k) refl in
-            let l : letter_at less xs i ≡ (if has less i then present else absent) = outside less xs i (a.0 i k) in
+            let l : byte_state_at less xs i ≡ (if has less i then present else absent) = outside less xs i (a.0 i k) in
             rw (e, k, e, l, n) refl
         | inr k ↦
             let n : has less i ≡ has taken i = h ∙ rw (sym here ∙ k) (elim (cases_Bool (has taken i)) [ inl v ↦ rw v refl | inr v ↦ rw v refl ]) in
-            let none : is_under g (letter_at taken xs i) ≡ false = not_under g taken xs i (others_differ g x xs e d.0) in
-            rw (e, k, none) (same_letter taken less xs i n)
+            let none : is_under g (byte_state_at taken xs i) ≡ false = not_under g taken xs i (others_differ g x xs e d.0) in
+            rw (e, k, none) (same_byte_state taken less xs i n)
       ]
   | inr e ↦ let s = rw e at f in elim (cases_Bool (in_gap x i)) [
     | inl k ↦ rw (e, k, e) refl
-    | inr k ↦ rw (e, k) (failed_letter g taken less xs o len i t.3 a.1 d.1 s h)
+    | inr k ↦ rw (e, k) (failed_byte_state g taken less xs o len i t.3 a.1 d.1 s h)
   ]
 ]
 
@@ -319,18 +319,18 @@ module _ (g first len : ℕ) (taken less : List ByteRange) (gaps : List OpenGap)
     numbers = rw (marked_numbers o ks) s.numbers;
   }
 
-  failed_letters : letters_of len less (without_gap g gaps) ≡ map (λ l. if is_under g l then absent else l) (letters_of len taken gaps)
-  failed_letters =
-      map_same (letter_at less (without_gap g gaps)) (λ i. if is_under g (letter_at taken gaps i) then absent else letter_at taken gaps i) 0 len (λ i a b. failed_letter g taken less gaps o len i s.gaps s.apart s.ids f (removed i))
-      ∙ sym (map_range (λ l. if is_under g l then absent else l) (letter_at taken gaps) 0 len)
+  failed_byte_states : byte_states_of len less (without_gap g gaps) ≡ map (λ l. if is_under g l then absent else l) (byte_states_of len taken gaps)
+  failed_byte_states =
+      map_same (byte_state_at less (without_gap g gaps)) (λ i. if is_under g (byte_state_at taken gaps i) then absent else byte_state_at taken gaps i) 0 len (λ i a b. failed_byte_state g taken less gaps o len i s.gaps s.apart s.ids f (removed i))
+      ∙ sym (map_range (λ l. if is_under g l then absent else l) (byte_state_at taken gaps) 0 len)
 
   pub failed_is : seen len less (without_gap g gaps) (map (mark o) ks) ≡ fail g (seen len taken gaps ks)
   failed_is =
       let b = bounds_of g len taken gaps o s.gaps f in
-      rw (failed_letters, marked_are g len taken gaps o s.apart s.ids f b.0 ks s.tickets) refl
+      rw (failed_byte_states, marked_are g len taken gaps o s.apart s.ids f b.0 ks s.tickets) refl
 
 pub renewed : (len : ℕ) → seen len [] [] [] ≡ new_tracker len
-renewed len = rw (no_letters 0 len) refl
+renewed len = rw (no_byte_states 0 len) refl
 
 pub first_part : (n : ℕ) (xs ys : List Ticket) → length xs ≡ n → take n (xs ++ ys) ≡ xs
 first_part n xs ys e = let h : n ≤ length xs = omega arith in take-append-le n xs ys h ∙ take_all n xs (omega arith)

@@ -1,4 +1,4 @@
--- The code's ranges and gaps, and the letters that they stand for.
+-- The code's ranges and gaps, and the states that they stand for.
 use Rattle.std.proofs.Common.{arith, ◌≡◌, ◌<◌, ◌≤◌, ◌+◌, ◌-◌, ℕ, zero, suc, Bool, true, false, List, [], ◌∷◌, ◌++◌, sym, ◌∙◌, ap, inl, inr, refl, length, take, Some, None}
 use Rattle.std.specs.Prelude.{◌||◌, min, not, map, if◌then◌else◌, replicate}
 use Rattle.std.specs.List.{range_with_len}
@@ -8,8 +8,8 @@ use Rattle.std.proofs.lemmas.Bool.Decides.{nat_tests}
 use Rattle.region_ranges.specs.declared.ranges.ByteRange.{ByteRange}
 use Rattle.region_ranges.specs.Ranges.{inside, has, free_below, first_run}
 use Rattle.sparse_tracker.specs.declared.gaps.OpenGap.{OpenGap}
-use Rattle.sparse_tracker.specs.Letters.{Letter, absent, pending, is_absent, change_from, change, least_from, Tracker, claimed_run, not_behind, wait_for_range, new_ticket, with_ticket, open_gap}
-use Rattle.sparse_tracker.specs.Kept.{letter_at, letters_of, in_gap, AllTaken, AllInside}
+use Rattle.sparse_tracker.specs.ByteStates.{ByteState, absent, pending, is_absent, change_from, change, least_from, Tracker, claimed_run, not_behind, wait_for_range, new_ticket, with_ticket, open_gap}
+use Rattle.sparse_tracker.specs.Kept.{byte_state_at, byte_states_of, in_gap, AllTaken, AllInside}
 use Rattle.sparse_tracker.specs.declared.tickets.Ticket.{Ticket}
 use Rattle.std.specs.List.{list_any}
 use Rattle.std.specs.Prelude.{◌==◌}
@@ -18,9 +18,9 @@ pub map_same : {X : Type 0} (f g : ℕ → X) (a n : ℕ) → ((i : ℕ) → a �
 map_same f g a zero h = refl
 map_same f g a (suc n) h = rw (h a (omega arith) (omega arith), map_same f g (a + 1) n (λ i k l. h i (omega arith) (omega arith))) refl
 
-pub length-letters : (len : ℕ) (f : ℕ → Letter) (a : ℕ) → length (map f (range_with_len a len)) ≡ len
-length-letters zero f a = refl
-length-letters (suc n) f a = ap suc (length-letters n f (a + 1))
+pub length-byte_states : (len : ℕ) (f : ℕ → ByteState) (a : ℕ) → length (map f (range_with_len a len)) ≡ len
+length-byte_states zero f a = refl
+length-byte_states (suc n) f a = ap suc (length-byte_states n f (a + 1))
 
 pub take_range : {X : Type 0} (f : ℕ → X) (a n m : ℕ) → m ≤ n → take m (map f (range_with_len a n)) ≡ map f (range_with_len a m)
 take_range f a n zero h = refl
@@ -31,23 +31,23 @@ pub map_range : {X Y : Type 0} (g : X → Y) (f : ℕ → X) (a n : ℕ) → map
 map_range g f a zero = refl
 map_range g f a (suc n) = ap (λ (xs : List _). g (f a) ∷ xs) (map_range g f (a + 1) n)
 
-pub change_range : (h : ℕ → Letter → Letter) (f : ℕ → Letter) (a n : ℕ) → change_from a h (map f (range_with_len a n)) ≡ map (λ i. h i (f i)) (range_with_len a n)
+pub change_range : (h : ℕ → ByteState → ByteState) (f : ℕ → ByteState) (a n : ℕ) → change_from a h (map f (range_with_len a n)) ≡ map (λ i. h i (f i)) (range_with_len a n)
 change_range h f a zero = refl
-change_range h f a (suc n) = ap (λ (xs : List Letter). h a (f a) ∷ xs) (change_range h f (a + 1) n)
+change_range h f a (suc n) = ap (λ (xs : List ByteState). h a (f a) ∷ xs) (change_range h f (a + 1) n)
 
--- a letter is absent exactly where nothing was taken
-pub absent_is : (len : ℕ) (taken : List ByteRange) (gaps : List OpenGap) (i : ℕ) → AllTaken len taken gaps → is_absent (letter_at taken gaps i) ≡ not (has taken i)
+-- a state is absent exactly where nothing was taken
+pub absent_is : (len : ℕ) (taken : List ByteRange) (gaps : List OpenGap) (i : ℕ) → AllTaken len taken gaps → is_absent (byte_state_at taken gaps i) ≡ not (has taken i)
 absent_is len taken [] i t = elim (cases_Bool (has taken i)) [ inl e ↦ rw e refl | inr e ↦ rw e refl ]
 absent_is len taken (g ∷ gs) i t = elim (cases_Bool (in_gap g i)) [
   | inl e ↦ rw (e, t.2 i e) refl
   | inr e ↦ rw e (absent_is len taken gs i t.3)
 ]
 
-pub flags_are : (len end : ℕ) (taken : List ByteRange) (gaps : List OpenGap) → AllTaken len taken gaps → end ≤ len → map is_absent (take end (letters_of len taken gaps)) ≡ free_below taken end
+pub flags_are : (len end : ℕ) (taken : List ByteRange) (gaps : List OpenGap) → AllTaken len taken gaps → end ≤ len → map is_absent (take end (byte_states_of len taken gaps)) ≡ free_below taken end
 flags_are len end taken gaps t h =
-    ap (λ (ls : List Letter). map is_absent ls) (take_range (letter_at taken gaps) 0 len end h)
-    ∙ map_range is_absent (letter_at taken gaps) 0 end
-    ∙ map_same (λ i. is_absent (letter_at taken gaps i)) (λ i. not (has taken i)) 0 end (λ i k l. absent_is len taken gaps i t)
+    ap (λ (ls : List ByteState). map is_absent ls) (take_range (byte_state_at taken gaps) 0 len end h)
+    ∙ map_range is_absent (byte_state_at taken gaps) 0 end
+    ∙ map_same (λ i. is_absent (byte_state_at taken gaps i)) (λ i. not (has taken i)) 0 end (λ i k l. absent_is len taken gaps i t)
 
 -- ---- a claim
 
@@ -62,25 +62,25 @@ not_in len taken g gs i t e = elim (cases_Bool (in_gap g i)) [
 ]
 
 module _ (len : ℕ) (taken more : List ByteRange) (run : ByteRange) (id : ℕ) (added : (i : ℕ) → has more i ≡ (inside run i || has taken i)) (free : (i : ℕ) → inside run i ≡ true → has taken i ≡ false) where
-  letter_in : (gaps : List OpenGap) (i : ℕ) → AllTaken len taken gaps → inside run i ≡ true → letter_at more (gaps ++ gap_on id run ∷ []) i ≡ pending id
-  letter_in [] i t h = rw h refl
-  letter_in (g ∷ gs) i t h = rw (not_in len taken g gs i t (free i h), letter_in gs i t.3 h) refl
+  byte_state_in : (gaps : List OpenGap) (i : ℕ) → AllTaken len taken gaps → inside run i ≡ true → byte_state_at more (gaps ++ gap_on id run ∷ []) i ≡ pending id
+  byte_state_in [] i t h = rw h refl
+  byte_state_in (g ∷ gs) i t h = rw (not_in len taken g gs i t (free i h), byte_state_in gs i t.3 h) refl
 
-  letter_out : (gaps : List OpenGap) (i : ℕ) → inside run i ≡ false → letter_at more (gaps ++ gap_on id run ∷ []) i ≡ letter_at taken gaps i
-  letter_out [] i h = rw (h, added i, h) refl
-  letter_out (g ∷ gs) i h = rw (letter_out gs i h) refl
+  byte_state_out : (gaps : List OpenGap) (i : ℕ) → inside run i ≡ false → byte_state_at more (gaps ++ gap_on id run ∷ []) i ≡ byte_state_at taken gaps i
+  byte_state_out [] i h = rw (h, added i, h) refl
+  byte_state_out (g ∷ gs) i h = rw (byte_state_out gs i h) refl
 
-  letter_new : (gaps : List OpenGap) (i : ℕ) → AllTaken len taken gaps → letter_at more (gaps ++ gap_on id run ∷ []) i ≡ (if inside run i then pending id else letter_at taken gaps i)
-  letter_new gaps i t = elim (cases_Bool (inside run i)) [
-    | inl h ↦ rw h (letter_in gaps i t h)
-    | inr h ↦ rw h (letter_out gaps i h)
+  byte_state_new : (gaps : List OpenGap) (i : ℕ) → AllTaken len taken gaps → byte_state_at more (gaps ++ gap_on id run ∷ []) i ≡ (if inside run i then pending id else byte_state_at taken gaps i)
+  byte_state_new gaps i t = elim (cases_Bool (inside run i)) [
+    | inl h ↦ rw h (byte_state_in gaps i t h)
+    | inr h ↦ rw h (byte_state_out gaps i h)
   ]
 
-  -- the letters after a gap was opened on a run of absent places
-  pub claimed : (gaps : List OpenGap) → AllTaken len taken gaps → letters_of len more (gaps ++ gap_on id run ∷ []) ≡ change (λ i l. if inside run i then pending id else l) (letters_of len taken gaps)
+  -- the states after a gap was opened on a run of absent places
+  pub claimed : (gaps : List OpenGap) → AllTaken len taken gaps → byte_states_of len more (gaps ++ gap_on id run ∷ []) ≡ change (λ i l. if inside run i then pending id else l) (byte_states_of len taken gaps)
   claimed gaps t =
-      map_same (letter_at more (gaps ++ gap_on id run ∷ [])) (λ i. if inside run i then pending id else letter_at taken gaps i) 0 len (λ i a b. letter_new gaps i t)
-      ∙ sym (change_range (λ i l. if inside run i then pending id else l) (letter_at taken gaps) 0 len)
+      map_same (byte_state_at more (gaps ++ gap_on id run ∷ [])) (λ i. if inside run i then pending id else byte_state_at taken gaps i) 0 len (λ i a b. byte_state_new gaps i t)
+      ∙ sym (change_range (λ i l. if inside run i then pending id else l) (byte_state_at taken gaps) 0 len)
 
   more_taken : (i : ℕ) → has taken i ≡ true → has more i ≡ true
   more_taken i h = rw (added i, h) (elim (cases_Bool (inside run i)) [ inl e ↦ rw e refl | inr e ↦ rw e refl ])
@@ -100,19 +100,19 @@ pub least_step : (k n : ℕ) (used : List ℕ) → 0 < k → least_from k n used
 least_step zero n used h = absurd (omega arith)
 least_step (suc k) n used h = let e : suc k - 1 ≡ k = omega arith in rw e refl
 
-pub no_letters : (a len : ℕ) → map (letter_at [] []) (range_with_len a len) ≡ replicate len absent
-no_letters a zero = refl
-no_letters a (suc n) = ap (λ (xs : List Letter). absent ∷ xs) (no_letters (a + 1) n)
+pub no_byte_states : (a len : ℕ) → map (byte_state_at [] []) (range_with_len a len) ≡ replicate len absent
+no_byte_states a zero = refl
+no_byte_states a (suc n) = ap (λ (xs : List ByteState). absent ∷ xs) (no_byte_states (a + 1) n)
 
 -- ---- the call
 
 abbrev pub seen : ℕ → List ByteRange → List OpenGap → List Ticket → Tracker
-seen len taken gaps tickets = record { letters = letters_of len taken gaps; gaps = gaps; tickets = tickets }
+seen len taken gaps tickets = record { byte_states = byte_states_of len taken gaps; gaps = gaps; tickets = tickets }
 
-pub claimed_is : (len : ℕ) (taken : List ByteRange) (gaps : List OpenGap) (tickets : List Ticket) (range sub : ByteRange) → AllTaken len taken gaps → range.end ≤ length (letters_of len taken gaps)
+pub claimed_is : (len : ℕ) (taken : List ByteRange) (gaps : List OpenGap) (tickets : List Ticket) (range sub : ByteRange) → AllTaken len taken gaps → range.end ≤ length (byte_states_of len taken gaps)
     → claimed_run range sub (seen len taken gaps tickets) ≡ not_behind sub (first_run (free_below taken range.end) range.start sub.start)
 claimed_is len taken gaps tickets range sub t h =
-    ap (λ (bs : List Bool). not_behind sub (first_run bs range.start sub.start)) (flags_are len range.end taken gaps t (let e : length (letters_of len taken gaps) ≡ len = length-letters len (letter_at taken gaps) 0 in omega arith))
+    ap (λ (bs : List Bool). not_behind sub (first_run bs range.start sub.start)) (flags_are len range.end taken gaps t (let e : length (byte_states_of len taken gaps) ≡ len = length-byte_states len (byte_state_at taken gaps) 0 in omega arith))
 
 pub waited_none : (range sub : ByteRange) (t : Tracker) → claimed_run range sub t ≡ None → record t { tickets = t.tickets ++ new_ticket sub t ∷ [] } ≡ wait_for_range range sub t
 waited_none range sub t e = rw e refl
@@ -120,13 +120,13 @@ waited_none range sub t e = rw e refl
 pub waited_some : (range sub run : ByteRange) (t : Tracker) → claimed_run range sub t ≡ Some run → with_ticket sub (open_gap run t) ≡ wait_for_range range sub t
 waited_some range sub run t e = rw e refl
 
-pub flags_min : (len end : ℕ) (taken : List ByteRange) (gaps : List OpenGap) → AllTaken len taken gaps → map is_absent (take end (letters_of len taken gaps)) ≡ free_below taken (min end len)
+pub flags_min : (len end : ℕ) (taken : List ByteRange) (gaps : List OpenGap) → AllTaken len taken gaps → map is_absent (take end (byte_states_of len taken gaps)) ≡ free_below taken (min end len)
 flags_min len end taken gaps t = elim (cases_lt end len) [
   | inl h ↦ let e : min end len ≡ end = omega arith in rw e (flags_are len end taken gaps t (omega arith))
   | inr h ↦
       let e : min end len ≡ len = omega arith in
-      let l : length (letters_of len taken gaps) ≡ len = length-letters len (letter_at taken gaps) 0 in
-      let a : take end (letters_of len taken gaps) ≡ letters_of len taken gaps = take_all end (letters_of len taken gaps) (omega (arith, l)) in
-      let b : take len (letters_of len taken gaps) ≡ letters_of len taken gaps = take_all len (letters_of len taken gaps) (omega (arith, l)) in
-      rw e (ap (λ (ls : List Letter). map is_absent ls) (a ∙ sym b) ∙ flags_are len len taken gaps t (omega arith))
+      let l : length (byte_states_of len taken gaps) ≡ len = length-byte_states len (byte_state_at taken gaps) 0 in
+      let a : take end (byte_states_of len taken gaps) ≡ byte_states_of len taken gaps = take_all end (byte_states_of len taken gaps) (omega (arith, l)) in
+      let b : take len (byte_states_of len taken gaps) ≡ byte_states_of len taken gaps = take_all len (byte_states_of len taken gaps) (omega (arith, l)) in
+      rw e (ap (λ (ls : List ByteState). map is_absent ls) (a ∙ sym b) ∙ flags_are len len taken gaps t (omega arith))
 ]

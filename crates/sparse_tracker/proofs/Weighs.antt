@@ -4,7 +4,7 @@ use Rattle.std.specs.Prelude.{◌==◌, map, find, if◌then◌else◌}
 use Rattle.std.proofs.lemmas.Bool.{cases_Bool}
 use Rattle.sparse_tracker.specs.declared.gaps.OpenGap.{OpenGap}
 use Rattle.sparse_tracker.specs.declared.tickets.Ticket.{Ticket}
-use Rattle.sparse_tracker.specs.Letters.{Letter, fail_ticket, move_gap, without_gap, without_ticket}
+use Rattle.sparse_tracker.specs.ByteStates.{ByteState, fail_ticket, move_gap, without_gap, without_ticket}
 use Rattle.sparse_tracker.specs.Weights.{total, by_ticket, by_gap, TicketWeights, GapWeights}
 
 pub total-push : {X : Type 0} (f : X → ℕ) (xs : List X) (x : X) → total f (xs ++ x ∷ []) ≡ total f xs + f x
@@ -18,7 +18,7 @@ left_weighs f n (t ∷ ts) k h = elim (cases_Bool (t.number == n)) [
   | inr e ↦ let s = rw e at h in let r = left_weighs f n ts k s in rw e (omega (arith, r))
 ]
 
-pub failed_weighs : (f : ℕ → ℕ → ℕ → ℕ) (g : ℕ) (ls : List Letter) (ks : List Ticket) → total (by_ticket f) (map (fail_ticket g ls) ks) ≡ total (by_ticket f) ks
+pub failed_weighs : (f : ℕ → ℕ → ℕ → ℕ) (g : ℕ) (ls : List ByteState) (ks : List Ticket) → total (by_ticket f) (map (fail_ticket g ls) ks) ≡ total (by_ticket f) ks
 failed_weighs f g ls [] = refl
 failed_weighs f g ls (k ∷ ks) = ap (λ (n : ℕ). by_ticket f k + n) (failed_weighs f g ls ks)
 
@@ -50,7 +50,7 @@ pub tickets_told : TicketWeights
 tickets_told = record {
   added = λ f sub t. total-push (by_ticket f) t.tickets _;
   left = λ f n k t h. left_weighs f n t.tickets k h;
-  failed = λ f g t. failed_weighs f g t.letters t.tickets;
+  failed = λ f g t. failed_weighs f g t.byte_states t.tickets;
 }
 
 pub gaps_told : GapWeights

@@ -1,5 +1,5 @@
 -- The tracker of this crate's test, step by step.
-use Rattle.sparse_tracker.specs.Letters.{Tracker, new_tracker, wait_for_range, wait_if_pending, progress, fail}
+use Rattle.sparse_tracker.specs.ByteStates.{Tracker, new_tracker, wait_for_range, wait_if_pending, progress, fail}
 
 -- ten bytes claimed by somebody who waits for those at 2 and 3
 abbrev pub claimed : Tracker

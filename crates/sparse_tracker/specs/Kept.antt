@@ -1,35 +1,35 @@
--- What is true of every tracker, and the code's ranges as letters.
+-- What is true of every tracker, and the code's ranges as states.
 use Rattle.std.specs.Prelude.{◌≡◌, ◌<◌, ◌≤◌, ◌+◌, ◌-◌, ◌*◌, not, ◌&&◌, ◌||◌, ◌==◌, ℕ, Bool, true, false, nat_lt, nat_le, List, [], ◌∷◌, length, map, slice_get, Some, if◌then◌else◌}
 use Rattle.std.specs.List.{range_with_len, list_any}
 use Rattle.region_ranges.specs.declared.ranges.ByteRange.{ByteRange}
 use Rattle.region_ranges.specs.Ranges.{has}
-use Rattle.sparse_tracker.specs.Letters.{Letter, absent, pending, present, Tracker, TrackerView, ids, numbers}
+use Rattle.sparse_tracker.specs.ByteStates.{ByteState, absent, pending, present, Tracker, TrackerView, ids, numbers}
 use Rattle.sparse_tracker.specs.declared.gaps.OpenGap.{OpenGap}
 use Rattle.sparse_tracker.specs.declared.tickets.Ticket.{Ticket}
 
 -- ---- what every caller may rely on
 
--- gaps are not empty, no two hold the same place, and the letters from a gap's present end to its end, and no others, are pending under it
+-- gaps are not empty, no two hold the same place, and the states from a gap's present end to its end, and no others, are pending under it
 pub record GapsFit (t : Tracker) : Type 0 where
-  pub bounds : (j : ℕ) (g : OpenGap) → slice_get t.gaps j ≡ Some g → (g.upto < g.end) × (g.end ≤ length t.letters)
+  pub bounds : (j : ℕ) (g : OpenGap) → slice_get t.gaps j ≡ Some g → (g.upto < g.end) × (g.end ≤ length t.byte_states)
   pub apart : (j k i : ℕ) (g h : OpenGap) → slice_get t.gaps j ≡ Some g → slice_get t.gaps k ≡ Some h → g.upto ≤ i → i < g.end → h.upto ≤ i → i < h.end → j ≡ k
-  pub letters : (j : ℕ) (g : OpenGap) (i : ℕ) → slice_get t.gaps j ≡ Some g → g.upto ≤ i → i < g.end → slice_get t.letters i ≡ Some (pending g.id)
-  pub owned : (i h : ℕ) → slice_get t.letters i ≡ Some (pending h) → (j : ℕ) × (g : OpenGap) × (slice_get t.gaps j ≡ Some g) × (g.id ≡ h) × (g.upto ≤ i) × (i < g.end)
+  pub byte_states : (j : ℕ) (g : OpenGap) (i : ℕ) → slice_get t.gaps j ≡ Some g → g.upto ≤ i → i < g.end → slice_get t.byte_states i ≡ Some (pending g.id)
+  pub owned : (i h : ℕ) → slice_get t.byte_states i ≡ Some (pending h) → (j : ℕ) × (g : OpenGap) × (slice_get t.gaps j ≡ Some g) × (g.id ≡ h) × (g.upto ≤ i) × (i < g.end)
 
 -- besides, ids differ, numbers of tickets differ, and each ticket waits for at least one byte of the tracker
 pub record IsGood (t : Tracker) : Type 0 where
   pub gaps : GapsFit t
   pub ids : (j k : ℕ) (g h : OpenGap) → slice_get t.gaps j ≡ Some g → slice_get t.gaps k ≡ Some h → g.id ≡ h.id → j ≡ k
   pub numbers : (j k : ℕ) (m n : Ticket) → slice_get t.tickets j ≡ Some m → slice_get t.tickets k ≡ Some n → m.number ≡ n.number → j ≡ k
-  pub tickets : (j : ℕ) (k : Ticket) → slice_get t.tickets j ≡ Some k → (k.start < k.end) × (k.end ≤ length t.letters)
+  pub tickets : (j : ℕ) (k : Ticket) → slice_get t.tickets j ≡ Some k → (k.start < k.end) × (k.end ≤ length t.byte_states)
 
 -- besides, it is never longer than it was made
 pub record IsKept (v : TrackerView) : Type 0 where
   pub tracker : IsGood v.tracker
-  pub len : length v.tracker.letters ≤ v.first_len
+  pub len : length v.tracker.byte_states ≤ v.first_len
   pub most : v.first_len < 4294967296
 
--- ---- the code's ranges and gaps, as letters
+-- ---- the code's ranges and gaps, as states
 
 abbrev pub in_gap : OpenGap → ℕ → Bool
 in_gap g i = nat_le g.upto i && nat_lt i g.end
@@ -50,13 +50,13 @@ any_free taken sub = list_any (λ i. not (has taken i)) (range_with_len sub.star
 abbrev pub mark : OpenGap → Ticket → Ticket
 mark g k = record k { failed = k.failed || meets (record { start = k.start; end = k.end }) g }
 
--- the letter of a place: pending under an open gap, else present where it was ever claimed and not failed
-abbrev pub letter_at : List ByteRange → List OpenGap → ℕ → Letter
-letter_at taken [] i = if has taken i then present else absent
-letter_at taken (g ∷ gs) i = if in_gap g i then pending g.id else letter_at taken gs i
+-- the state of a place: pending under an open gap, else present where it was ever claimed and not failed
+abbrev pub byte_state_at : List ByteRange → List OpenGap → ℕ → ByteState
+byte_state_at taken [] i = if has taken i then present else absent
+byte_state_at taken (g ∷ gs) i = if in_gap g i then pending g.id else byte_state_at taken gs i
 
-abbrev pub letters_of : ℕ → List ByteRange → List OpenGap → List Letter
-letters_of len taken gaps = map (letter_at taken gaps) (range_with_len 0 len)
+abbrev pub byte_states_of : ℕ → List ByteRange → List OpenGap → List ByteState
+byte_states_of len taken gaps = map (byte_state_at taken gaps) (range_with_len 0 len)
 
 -- the pending places of each gap are taken, and inside the tracker
 abbrev pub AllTaken : ℕ → List ByteRange → List OpenGap → Type 0

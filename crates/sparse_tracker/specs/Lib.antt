@@ -1,4 +1,4 @@
-pub mod Letters
+pub mod ByteStates
 pub mod Kept
 pub mod Weights
 pub mod Places

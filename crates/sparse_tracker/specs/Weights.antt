@@ -3,7 +3,7 @@ use Rattle.std.specs.Prelude.{◌≡◌, ◌+◌, ◌==◌, ℕ, List, [], ◌�
 use Rattle.region_ranges.specs.declared.ranges.ByteRange.{ByteRange}
 use Rattle.sparse_tracker.specs.declared.gaps.OpenGap.{OpenGap}
 use Rattle.sparse_tracker.specs.declared.tickets.Ticket.{Ticket}
-use Rattle.sparse_tracker.specs.Letters.{Tracker, new_ticket, with_ticket, open_gap, least_unused, ids, gap_of, ticket_of, progress, fail, leave}
+use Rattle.sparse_tracker.specs.ByteStates.{Tracker, new_ticket, with_ticket, open_gap, least_unused, ids, gap_of, ticket_of, progress, fail, leave}
 
 abbrev pub total : {X : Type 0} → (X → ℕ) → List X → ℕ
 total f [] = 0

@@ -2,7 +2,7 @@
 
 ghost use Rattle.std.specs.Prelude.{◌≡◌, ◌<◌, ◌≤◌, ◌+◌, ℕ, length, ◌==◌, IsSome, find, not, vec_len, vec_capacity};
 ghost use Rattle.std.specs.List.{list_any, prefix_len};
-ghost use Rattle.sparse_tracker.specs.Letters.{least_unused, ids, move_gap, without_gap};
+ghost use Rattle.sparse_tracker.specs.ByteStates.{least_unused, ids, move_gap, without_gap};
 ghost use Rattle.sparse_tracker.specs.Kept.{meets};
 
 use region_ranges::ByteRange;

@@ -1,7 +1,7 @@
 //! A tracker of ten bytes: claimed for those at 2 and 3, fetched to 3 and to 4, and failed.
 
 ghost use Rattle.std.specs.Prelude.{◌≡◌, OnOk};
-ghost use Rattle.sparse_tracker.specs.Letters.{new_tracker};
+ghost use Rattle.sparse_tracker.specs.ByteStates.{new_tracker};
 ghost use Rattle.sparse_tracker.specs.Example.{claimed, begun, fetched, lost, joined};
 
 use crate::status::{Claim, Gap, Status};

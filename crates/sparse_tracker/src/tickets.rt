@@ -2,7 +2,7 @@
 
 ghost use Rattle.std.specs.Prelude.{◌≡◌, ◌<◌, ◌≤◌, ◌+◌, ℕ, length, ◌==◌, ◌++◌, ◌∷◌, [], IsSome, find, not, map, false, vec_len, vec_capacity};
 ghost use Rattle.std.specs.List.{list_any, prefix_len};
-ghost use Rattle.sparse_tracker.specs.Letters.{least_unused, numbers, without_ticket};
+ghost use Rattle.sparse_tracker.specs.ByteStates.{least_unused, numbers, without_ticket};
 ghost use Rattle.sparse_tracker.specs.Kept.{mark};
 
 use crate::gaps::OpenGap;

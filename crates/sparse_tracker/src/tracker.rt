@@ -3,7 +3,7 @@
 
 ghost use Rattle.std.specs.Prelude.{◌≡◌, ◌<◌, ◌≤◌, ◌+◌, ◌-◌, ℕ, max, OnOk, OnErr, IfOk, IsOk, IfSome, IsSome, option_map, length, true, false, ◌||◌, ◌&&◌, not, ◌++◌, ◌∷◌, [], Some, vec_len, vec_capacity};
 ghost use Rattle.region_ranges.specs.Ranges.{inside, has, first_run, free_below};
-ghost use Rattle.sparse_tracker.specs.Letters.{TrackerView, new_tracker, absent_run, not_behind, wait_for_range, new_claim, has_all, wait_if_pending, pending_ticket, progress, complete, fail, leave, status, gap_of, ticket_of, least_unused, ids};
+ghost use Rattle.sparse_tracker.specs.ByteStates.{TrackerView, new_tracker, absent_run, not_behind, wait_for_range, new_claim, has_all, wait_if_pending, pending_ticket, progress, complete, fail, leave, status, gap_of, ticket_of, least_unused, ids};
 ghost use Rattle.sparse_tracker.specs.Kept.{IsKept, any_free, in_gap};
 
 use crate::gaps::{OpenGap, gap_of, has_pending, move_gap, take_gap, unused_id};
@@ -13,7 +13,7 @@ use region_ranges::{ByteRange, RangeSet};
 use std::alloc::{AllocError, Global};
 use std::marker::Model;
 
-/// A sparse file tracker, seen as a list of letters, one a byte, with the open gaps and the tickets.
+/// A sparse file tracker, seen as a list of states, one a byte, with the open gaps and the tickets.
 #[derive(Drop)]
 pub struct Tracker {
     first_len: u32,
@@ -26,12 +26,12 @@ pub struct Tracker {
 
 impl Model for Tracker {
     ghost use Rattle.std.specs.Prelude.{ℕ, vec_len, vec_capacity};
-    ghost use Rattle.sparse_tracker.specs.Letters.{TrackerView};
-    ghost use Rattle.sparse_tracker.specs.Kept.{letters_of, IsStored, HasRoom};
+    ghost use Rattle.sparse_tracker.specs.ByteStates.{TrackerView};
+    ghost use Rattle.sparse_tracker.specs.Kept.{byte_states_of, IsStored, HasRoom};
 
     ghost Value = { TrackerView };
 
-    ghost view = { λ t. record { tracker = record { letters = letters_of t.len t.taken.ranges t.gaps.items; gaps = t.gaps.items; tickets = t.tickets.items }; first_len = t.first_len; spare = t.spare } };
+    ghost view = { λ t. record { tracker = record { byte_states = byte_states_of t.len t.taken.ranges t.gaps.items; gaps = t.gaps.items; tickets = t.tickets.items }; first_len = t.first_len; spare = t.spare } };
 
     ghost invariant = { λ t.
         IsStored t.first_len t.len t.taken.ranges t.gaps.items t.tickets.items
@@ -55,7 +55,7 @@ impl Tracker {
 
     /// The number of its bytes.
     pub fn len(&self) -> u32
-        ensures { result ≡ length self.now.tracker.letters }
+        ensures { result ≡ length self.now.tracker.byte_states }
     {
         self.len
     }
@@ -69,7 +69,7 @@ impl Tracker {
 
     /// The greatest run of absent bytes in the range that holds the first absent byte of the range at or after `from`.
     pub fn absent_within(&self, range: ByteRange, from: u64) -> Option<ByteRange>
-        ensures { result ≡ absent_run self.now.tracker.letters range from }
+        ensures { result ≡ absent_run self.now.tracker.byte_states range from }
     {
         let within = ByteRange {
             start: range.start,
@@ -80,7 +80,7 @@ impl Tracker {
 
     /// Whether all bytes of the range are present.
     pub fn has_all(&self, sub: ByteRange) -> bool
-        requires { (sub.start < sub.end) × (sub.end ≤ length self.now.tracker.letters) }
+        requires { (sub.start < sub.end) × (sub.end ≤ length self.now.tracker.byte_states) }
         ensures { result ≡ has_all sub self.now.tracker }
     {
         !has_absent(&self.taken, sub) && !has_pending(&self.gaps, sub)
@@ -111,7 +111,7 @@ impl Tracker {
     /// is at least 1, and else may be refused for want of memory, with all as before.
     pub fn wait_for_range(&mut self, range: ByteRange, sub: ByteRange) -> Result<Claim, AllocError>
         requires sub { (sub.start < sub.end) × (range.start ≤ sub.start) × (sub.end ≤ range.end) }
-        requires range { range.end ≤ length self.old.tracker.letters }
+        requires range { range.end ≤ length self.old.tracker.byte_states }
         ensures ok { OnOk result (self.new ≡ record self.old { tracker = wait_for_range range sub self.old.tracker; spare = self.old.spare - 1 }) }
         ensures claim { IfOk result (λ c. c ≡ new_claim range sub self.old.tracker) }
         ensures err { OnErr result (self.new ≡ self.old) }
@@ -138,7 +138,7 @@ impl Tracker {
     /// A ticket on `sub`, or none where a byte of it is absent. It opens no gap, and leaves the room for claims as it
     /// is. It is refused only for want of memory, with all as before.
     pub fn wait_if_pending(&mut self, sub: ByteRange) -> Result<Option<u32>, AllocError>
-        requires { (sub.start < sub.end) × (sub.end ≤ length self.old.tracker.letters) }
+        requires { (sub.start < sub.end) × (sub.end ≤ length self.old.tracker.byte_states) }
         ensures ok { OnOk result (self.new ≡ record self.old { tracker = wait_if_pending sub self.old.tracker }) }
         ensures ticket { IfOk result (λ o. o ≡ pending_ticket sub self.old.tracker) }
         ensures err { OnErr result (self.new ≡ self.old) }

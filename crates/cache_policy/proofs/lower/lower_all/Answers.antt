@@ -10,12 +10,12 @@ use Rattle.cache_policy.proofs.lower.lower_all.Goals as goal
 
 pub loop-below-init : goal.loop-below-init
 loop-below-init c =
-    let goes : ℕ → Bool = goes_down c.args.stamps.now c.args.min_delta c.args.now in
+    let goes : ℕ → Bool = goes_down c.args.last_accesses.now c.args.min_delta c.args.now in
     (begin goes c.args.lists.now.lists, refl, refl, refl, omega arith)
 
 pub loop-below-preserved : goal.loop-below-preserved
 loop-below-preserved c =
-    let goes : ℕ → Bool = goes_down c.args.stamps.now c.args.min_delta c.args.now in
+    let goes : ℕ → Bool = goes_down c.args.last_accesses.now c.args.min_delta c.args.now in
     let old = c.loop-below.lists in
     let k = c.loop-below.below in
     let n = length (list_at (suc k) old.lists) in
@@ -35,14 +35,14 @@ loop-below-preserved c =
 
 pub returns-clause-lists : goal.returns-clause-lists
 returns-clause-lists c =
-    let goes : ℕ → Bool = goes_down c.args.stamps.now c.args.min_delta c.args.now in
+    let goes : ℕ → Bool = goes_down c.args.last_accesses.now c.args.min_delta c.args.now in
     let now = c.loop-below.lists in
     let last : length now.lists ≤ suc c.loop-below.below = omega (arith, c.loop-below.invariant.1) in
     views_same now c.args.lists.now.nodes (lower goes c.args.lists.now.lists) c.loop-below.invariant.2 (sym (done goes c.loop-below.below now.lists last) ∙ c.loop-below.invariant.0)
 
 pub returns-clause-counter : goal.returns-clause-counter
 returns-clause-counter c =
-    let goes : ℕ → Bool = goes_down c.args.stamps.now c.args.min_delta c.args.now in
+    let goes : ℕ → Bool = goes_down c.args.last_accesses.now c.args.min_delta c.args.now in
     let now = c.loop-below.lists in
     let last : length now.lists ≤ suc c.loop-below.below = omega (arith, c.loop-below.invariant.1) in
     let counted = rw (count_done goes c.loop-below.below now.lists last) at c.loop-below.invariant.3 in

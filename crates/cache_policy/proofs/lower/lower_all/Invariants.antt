@@ -6,7 +6,7 @@ use Rattle.cache_policy.proofs.lower.lower_all.Given as goal
 
 abbrev pub invariant-loop-below : goal.invariant-loop-below
 invariant-loop-below l =
-    let goes = goes_down l.stamps l.min_delta l.now in
+    let goes = goes_down l.last_accesses l.min_delta l.now in
     (lower_from goes l.below l.lists.lists ≡ lower goes l.fn.lists.lists)
     × (length l.lists.lists ≡ length l.fn.lists.lists)
     × (l.lists.nodes ≡ l.fn.lists.nodes)

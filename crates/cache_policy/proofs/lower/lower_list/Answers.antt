@@ -11,22 +11,22 @@ use Rattle.cache_policy.proofs.lower.lower_list.Goals.{then-goes_down, else-goes
 pub goes_down-requires : goal.goes_down-requires
 goes_down-requires c =
     let old = c.args.lists.now in
-    let goes : ℕ → _ = goes_down c.args.stamps.now c.args.min_delta c.args.now in
+    let goes : ℕ → _ = goes_down c.args.last_accesses.now c.args.min_delta c.args.now in
     let here : slice_get (list_at (suc c.args.below) old.lists) c.loop-at.seen ≡ Some c.in-Some.region = sym c.loop-at.invariant.3 ∙ c.in-Some.is in
     let some = there goes c.in-Some.region c.args.below c.loop-at.seen old.lists here in
     let range : c.in-Some.region < c.loop-at.lists.nodes = c.lesson-in-Some.ensures.range c.in-Some.region (rw c.loop-at.invariant.4 some) in
-    omega (arith, rw c.loop-at.invariant.4 at range, c.requires.stamps.0)
+    omega (arith, rw c.loop-at.invariant.4 at range, c.requires.last_accesses.0)
 
 pub push_back-requires-clause-list : goal.push_back-requires-clause-list
 push_back-requires-clause-list c =
     let old = c.args.lists.now in
-    let goes : ℕ → _ = goes_down c.args.stamps.now c.args.min_delta c.args.now in
+    let goes : ℕ → _ = goes_down c.args.last_accesses.now c.args.min_delta c.args.now in
     rw (c.unlink.ensures.lists, c.loop-at.invariant.4, length-unlink c.in-Some.region (lowering goes c.args.below c.loop-at.seen old.lists), length-lowering goes c.args.below c.loop-at.seen old.lists) (omega (arith, c.requires.list))
 
 pub push_back-requires-clause-node : goal.push_back-requires-clause-node
 push_back-requires-clause-node c =
     let old = c.args.lists.now in
-    let goes : ℕ → _ = goes_down c.args.stamps.now c.args.min_delta c.args.now in
+    let goes : ℕ → _ = goes_down c.args.last_accesses.now c.args.min_delta c.args.now in
     let here : slice_get (list_at (suc c.args.below) old.lists) c.loop-at.seen ≡ Some c.in-Some.region = sym c.loop-at.invariant.3 ∙ c.in-Some.is in
     let some = there goes c.in-Some.region c.args.below c.loop-at.seen old.lists here in
     rw c.unlink.ensures.lists (c.lesson-in-Some.ensures.range c.in-Some.region (rw c.loop-at.invariant.4 some))
@@ -37,7 +37,7 @@ push_back-requires-clause-free c = rw c.unlink.ensures.lists (times_unlink c.in-
 pub loop-at-preserved : goal.loop-at-preserved
 loop-at-preserved c =
     let old = c.args.lists.now in
-    let goes : ℕ → _ = goes_down c.args.stamps.now c.args.min_delta c.args.now in
+    let goes : ℕ → _ = goes_down c.args.last_accesses.now c.args.min_delta c.args.now in
     let n = c.in-Some.region in
     let here : slice_get (list_at (suc c.args.below) old.lists) c.loop-at.seen ≡ Some n = sym c.loop-at.invariant.3 ∙ c.in-Some.is in
     let once = rw c.loop-at.invariant.4 at (c.lesson-in-Some.ensures.once n) in

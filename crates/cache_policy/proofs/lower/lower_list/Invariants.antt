@@ -9,9 +9,9 @@ invariant-loop-at l =
     let old = l.fn.lists in
     (l.seen ≤ length (list_at (suc l.below) old.lists))
     × (length (list_at (suc l.below) old.lists) ≤ old.nodes)
-    × (l.lowered ≡ length (filter (goes_down l.stamps l.min_delta l.now) (take l.seen (list_at (suc l.below) old.lists))))
+    × (l.lowered ≡ length (filter (goes_down l.last_accesses l.min_delta l.now) (take l.seen (list_at (suc l.below) old.lists))))
     × (l.at ≡ slice_get (list_at (suc l.below) old.lists) l.seen)
-    × (l.lists ≡ record old { lists = lowering (goes_down l.stamps l.min_delta l.now) l.below l.seen old.lists })
+    × (l.lists ≡ record old { lists = lowering (goes_down l.last_accesses l.min_delta l.now) l.below l.seen old.lists })
     × (l.lowered ≤ l.seen)
 
 abbrev pub decreases-loop-at : goal.decreases-loop-at

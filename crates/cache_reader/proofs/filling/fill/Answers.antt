@@ -1,5 +1,5 @@
 use Rattle.std.proofs.Common.{arith, ◌≡◌, ◌+◌, ap, refl, subst, length, Ok, ◌∙◌}
-use Rattle.cache_door.specs.Doors.{Told, Agrees, told_hold}
+use Rattle.cache_door.specs.Doors.{HoldView, Agrees, hold_view}
 use Rattle.std.specs.Prelude.{option_map}
 use Rattle.cache_door.specs.Machine.{State, store, hold_at}
 use Rattle.cache_reader.proofs.Joins.{door_step, worked_idle}
@@ -20,7 +20,7 @@ loop-at-preserved g c =
       low = omega arith;
       high = omega (arith, c.min-len.ensures);
       stays = g.met.D.CacheDoor.stays_on _ _ _ c.loop-at.invariant.stays c.store_piece.ensures.stays;
-      hold = hold ∙ ap (λ (t : Told). record t { upto = t.upto + c.min-len.result }) c.loop-at.invariant.hold;
+      hold = hold ∙ ap (λ (t : HoldView). record t { upto = t.upto + c.min-len.result }) c.loop-at.invariant.hold;
       kept = policy_more _ _ _ c.loop-at.invariant.kept c.store_piece.ensures.kept;
       stored = λ told s e.
           let act = g.met.D.CacheDoor.same_actor _ _ c.loop-at.invariant.stays in
@@ -30,8 +30,8 @@ loop-at-preserved g c =
           let now = g.D.CacheDoor.state c.store_piece.new.door in
           stored_more _ (g.D.CacheDoor.actor c.args.door.now) c.args.file c.args.base c.args.gap.start c.loop-at.at c.min-len.result c.args.gap.end s before now piece (g.D.CacheDoor.hold c.loop-at.door)
           c.loop-at-test.true (omega (arith, c.min-len.ensures)) (omega (arith, size, c.requires.inside)) refl
-          (λ t is. (let agrees = told_of (Agrees g.A.Archive.tells (content g.A.Archive.blobs) (g.D.CacheDoor.config c.loop-at.door) (g.D.CacheDoor.frames_tell c.loop-at.door) (g.D.CacheDoor.hold c.loop-at.door) (g.D.CacheDoor.actor c.loop-at.door) (g.D.CacheDoor.seen_gone c.loop-at.door) (g.D.CacheDoor.unmounted c.loop-at.door)) before t c.lesson.ensures.told is in (agrees.good, agrees.hold ∙ ap (λ n. told_hold (hold_at t n)) act)))
-          (ap (λ (t : Told). t.upto) c.loop-at.invariant.hold) (ap (λ (t : Told). t.gap_end) c.loop-at.invariant.hold ∙ c.requires.gap.1)
+          (λ t is. (let agrees = told_of (Agrees g.A.Archive.tells (content g.A.Archive.blobs) (g.D.CacheDoor.config c.loop-at.door) (g.D.CacheDoor.frames_tell c.loop-at.door) (g.D.CacheDoor.hold c.loop-at.door) (g.D.CacheDoor.actor c.loop-at.door) (g.D.CacheDoor.seen_gone c.loop-at.door) (g.D.CacheDoor.unmounted c.loop-at.door)) before t c.lesson.ensures.told is in (agrees.good, agrees.hold ∙ ap (λ n. hold_view (hold_at t n)) act)))
+          (ap (λ (t : HoldView). t.upto) c.loop-at.invariant.hold) (ap (λ (t : HoldView). t.gap_end) c.loop-at.invariant.hold ∙ c.requires.gap.1)
           (subst (λ n. now ≡ option_map (λ (t : State). store n (hold_at t n) piece t) before) act (c.in-Ok-true.ensures.stored (ap Ok c.in-Ok-true.field-0-test) told))
           (c.loop-at.invariant.stored told s e);
       same = c.store_piece.ensures.same ∙ c.loop-at.invariant.same;
@@ -74,7 +74,7 @@ loop-at-init g c = record {
   low = omega arith;
   high = omega (arith, c.requires.gap);
   stays = g.met.D.CacheDoor.stays_same _;
-  hold = (let t = g.D.CacheDoor.hold c.args.door.now in ap (λ n. let k : Told = record t { upto = n } in k) c.requires.gap.0);
+  hold = (let t = g.D.CacheDoor.hold c.args.door.now in ap (λ n. let k : HoldView = record t { upto = n } in k) c.requires.gap.0);
   kept = policy_same _;
   stored = λ told s e. stored_none _ _ _ _ _ _ _ _ e c.requires.gap.2;
   same = refl;

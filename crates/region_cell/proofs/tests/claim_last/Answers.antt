@@ -4,7 +4,7 @@ use Rattle.region_cell.proofs.Steps.{lies, short_len, at_short_claimed}
 use Rattle.region_cell.proofs.tests.claim_last.Goals as goal
 
 pub claim-requires : goal.claim-requires
-claim-requires g c = lies short c.args.cell.now.note c.requires 0 10 1808 short_len (omega arith) (omega arith) (omega arith)
+claim-requires g c = lies short c.args.cell.now.metadata c.requires 0 10 1808 short_len (omega arith) (omega arith) (omega arith)
 
 pub returns : goal.returns
-returns g c = rw c.in_ok-claim.ensures.ok (at_short_claimed c.args.cell.now.note c.requires)
+returns g c = rw c.in_ok-claim.ensures.ok (at_short_claimed c.args.cell.now.metadata c.requires)

@@ -4,7 +4,7 @@ use Rattle.region_cell.proofs.Steps.{has_ticket, as_wide, joined_ticket}
 use Rattle.region_cell.proofs.tests.copy_joined.Goals as goal
 
 pub copy-requires-clause-ticket : goal.copy-requires-clause-ticket
-copy-requires-clause-ticket g c = has_ticket joined c.args.cell.now.note c.requires.cell 1 _ joined_ticket
+copy-requires-clause-ticket g c = has_ticket joined c.args.cell.now.metadata c.requires.cell 1 _ joined_ticket
 
 pub copy-requires-clause-len : goal.copy-requires-clause-len
-copy-requires-clause-len g c = as_wide joined c.args.cell.now.note c.requires.cell 1 _ _ joined_ticket c.requires.len
+copy-requires-clause-len g c = as_wide joined c.args.cell.now.metadata c.requires.cell 1 _ _ joined_ticket c.requires.len

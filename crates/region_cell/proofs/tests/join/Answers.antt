@@ -4,7 +4,7 @@ use Rattle.region_cell.proofs.Steps.{lies, begun_len, at_joined}
 use Rattle.region_cell.proofs.tests.join.Goals as goal
 
 pub claim-requires : goal.claim-requires
-claim-requires g c = lies begun c.args.cell.now.note c.requires 120 130 8192 begun_len (omega arith) (omega arith) (omega arith)
+claim-requires g c = lies begun c.args.cell.now.metadata c.requires 120 130 8192 begun_len (omega arith) (omega arith) (omega arith)
 
 pub returns : goal.returns
-returns g c = rw c.in_ok-claim.ensures.ok (at_joined c.args.cell.now.note c.requires)
+returns g c = rw c.in_ok-claim.ensures.ok (at_joined c.args.cell.now.metadata c.requires)

@@ -5,7 +5,7 @@ use Rattle.region_cell.proofs.Steps.{has_ticket, lies, leaves, whole_ticket, who
 use Rattle.region_cell.proofs.tests.read_the_end.Goals as goal
 
 pub leave-requires : goal.leave-requires
-leave-requires g c = has_ticket whole c.args.cell.now.note c.requires.cell 0 _ whole_ticket
+leave-requires g c = has_ticket whole c.args.cell.now.metadata c.requires.cell 0 _ whole_ticket
 
 pub peek-requires-clause-sub : goal.peek-requires-clause-sub
-peek-requires-clause-sub g c = rw c.leave.ensures (lies (leave 0 whole) _ (leaves whole c.args.cell.now.note c.requires.cell 0) 1800 1808 1808 whole_len (omega arith) (omega arith) (omega arith))
+peek-requires-clause-sub g c = rw c.leave.ensures (lies (leave 0 whole) _ (leaves whole c.args.cell.now.metadata c.requires.cell 0) 1800 1808 1808 whole_len (omega arith) (omega arith) (omega arith))

@@ -6,13 +6,13 @@ use Rattle.region_cell.proofs.Steps.{has_gap, fits, stored, short_gap, short_tag
 use Rattle.region_cell.proofs.tests.store_inside.Goals as goal
 
 pub store-requires-clause-gap : goal.store-requires-clause-gap
-store-requires-clause-gap g c = has_gap short_claimed c.args.cell.now.note c.requires.cell 0 _ short_gap
+store-requires-clause-gap g c = has_gap short_claimed c.args.cell.now.metadata c.requires.cell 0 _ short_gap
 
 pub store-requires-clause-piece : goal.store-requires-clause-piece
-store-requires-clause-piece g c = fits short_claimed c.args.cell.now.note c.requires.cell 0 1 8192 1000 _ c.args.piece.now short_gap short_tag c.requires.piece refl (omega arith)
+store-requires-clause-piece g c = fits short_claimed c.args.cell.now.metadata c.requires.cell 0 1 8192 1000 _ c.args.piece.now short_gap short_tag c.requires.piece refl (omega arith)
 
 pub returns : goal.returns
 returns g c =
     let e = c.store.ensures in
     let u = ap (λ (n : ℕ). progress 0 (0 + n) short_claimed) c.requires.piece.size ∙ is_half in
-    ok_then c.store.result (λ i. stored short_claimed c.args.cell.now.note c.requires.cell half _ 0 _ _ short_gap i u e.frame (ap (λ (v : CellView). v.note.range) e.rest)) e.ok
+    ok_then c.store.result (λ i. stored short_claimed c.args.cell.now.metadata c.requires.cell half _ 0 _ _ short_gap i u e.frame (ap (λ (v : CellView). v.metadata.range) e.rest)) e.ok

@@ -6,13 +6,13 @@ use Rattle.region_cell.proofs.Steps.{has_gap, fits, stored, half_gap, half_tag, 
 use Rattle.region_cell.proofs.tests.store_to_the_end.Goals as goal
 
 pub store-requires-clause-gap : goal.store-requires-clause-gap
-store-requires-clause-gap g c = has_gap half c.args.cell.now.note c.requires.cell 0 _ half_gap
+store-requires-clause-gap g c = has_gap half c.args.cell.now.metadata c.requires.cell 0 _ half_gap
 
 pub store-requires-clause-piece : goal.store-requires-clause-piece
-store-requires-clause-piece g c = fits half c.args.cell.now.note c.requires.cell 0 1 9192 808 _ c.args.piece.now half_gap half_tag c.requires.piece refl (omega arith)
+store-requires-clause-piece g c = fits half c.args.cell.now.metadata c.requires.cell 0 1 9192 808 _ c.args.piece.now half_gap half_tag c.requires.piece refl (omega arith)
 
 pub returns : goal.returns
 returns g c =
     let e = c.store.ensures in
     let u = ap (λ (n : ℕ). progress 0 (1000 + n) half) c.requires.piece.size ∙ is_whole in
-    ok_then c.store.result (λ i. stored half c.args.cell.now.note c.requires.cell whole _ 0 _ _ half_gap i u e.frame (ap (λ (v : CellView). v.note.range) e.rest)) e.ok
+    ok_then c.store.result (λ i. stored half c.args.cell.now.metadata c.requires.cell whole _ 0 _ _ half_gap i u e.frame (ap (λ (v : CellView). v.metadata.range) e.rest)) e.ok

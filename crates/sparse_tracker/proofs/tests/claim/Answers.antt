@@ -1,6 +1,6 @@
 use Rattle.std.proofs.Common.{◌≡◌, ◌∙◌, ap, arith}
 use Rattle.region_ranges.specs.declared.ranges.ByteRange.{ByteRange}
-use Rattle.sparse_tracker.specs.Letters.{TrackerView, wait_for_range}
+use Rattle.sparse_tracker.specs.ByteStates.{TrackerView, wait_for_range}
 use Rattle.sparse_tracker.proofs.tests.claim.Goals as goal
 
 pub wait_for_range-requires-clause-range : goal.wait_for_range-requires-clause-range

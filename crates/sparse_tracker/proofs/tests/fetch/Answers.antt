@@ -1,5 +1,5 @@
 use Rattle.std.proofs.Common.{◌≡◌, ◌∙◌, ap, arith, refl}
-use Rattle.sparse_tracker.specs.Letters.{TrackerView, progress}
+use Rattle.sparse_tracker.specs.ByteStates.{TrackerView, progress}
 use Rattle.sparse_tracker.proofs.tests.fetch.Goals as goal
 
 pub progress-requires-clause-open : goal.progress-requires-clause-open

@@ -1,6 +1,6 @@
 use Rattle.std.proofs.Common.{◌≡◌, ◌∙◌, ap, arith}
 use Rattle.region_ranges.specs.declared.ranges.ByteRange.{ByteRange}
-use Rattle.sparse_tracker.specs.Letters.{TrackerView, wait_if_pending}
+use Rattle.sparse_tracker.specs.ByteStates.{TrackerView, wait_if_pending}
 use Rattle.sparse_tracker.proofs.tests.join.Goals as goal
 
 pub wait_if_pending-requires : goal.wait_if_pending-requires

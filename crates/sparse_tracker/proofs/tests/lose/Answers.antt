@@ -1,5 +1,5 @@
 use Rattle.std.proofs.Common.{◌≡◌, ◌∙◌, ap, refl}
-use Rattle.sparse_tracker.specs.Letters.{TrackerView, fail}
+use Rattle.sparse_tracker.specs.ByteStates.{TrackerView, fail}
 use Rattle.sparse_tracker.proofs.tests.lose.Goals as goal
 
 pub fail-requires : goal.fail-requires

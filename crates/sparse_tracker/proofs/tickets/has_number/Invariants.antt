@@ -1,7 +1,7 @@
 use Rattle.std.proofs.Common.{◌≡◌, drop}
 use Rattle.std.specs.Prelude.{◌==◌}
 use Rattle.std.specs.List.{list_any}
-use Rattle.sparse_tracker.specs.Letters.{numbers}
+use Rattle.sparse_tracker.specs.ByteStates.{numbers}
 use Rattle.sparse_tracker.proofs.tickets.has_number.Given as goal
 
 abbrev pub invariant-loop-ticket : goal.invariant-loop-ticket

@@ -1,5 +1,5 @@
 use Rattle.std.proofs.Common.{arith, ◌≡◌, ◌-◌, ◌+◌, length, sym, ◌∙◌}
-use Rattle.sparse_tracker.specs.Letters.{numbers}
+use Rattle.sparse_tracker.specs.ByteStates.{numbers}
 use Rattle.sparse_tracker.proofs.Ties.{least_step}
 use Rattle.sparse_tracker.proofs.tickets.unused_number.Goals as goal
 

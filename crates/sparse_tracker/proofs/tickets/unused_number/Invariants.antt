@@ -1,5 +1,5 @@
 use Rattle.std.proofs.Common.{◌≡◌, ◌-◌, length}
-use Rattle.sparse_tracker.specs.Letters.{numbers, least_from, least_unused}
+use Rattle.sparse_tracker.specs.ByteStates.{numbers, least_from, least_unused}
 use Rattle.sparse_tracker.proofs.tickets.unused_number.Given as goal
 
 abbrev pub invariant-loop-number : goal.invariant-loop-number

@@ -42,4 +42,4 @@ returns-clause-later g c =
     let inside = roomed_inside u c.reserve.new.self r n c.in-Some.ensures.inside c.in_ok-reserve.ensures.ok w p c.make_room.ensures in
     later_on (reserved_later u c.reserve.new.self r n c.in-Some.ensures.inside c.in_ok-reserve.ensures.ok)
     (later_on (policy_later c.reserve.new.self w p (counters_roomed c.reserve.new.self.holds c.reserve.new.self.policy) c.make_room.ensures)
-    (later_on (assigned_later w c.assign.new.self r (assign (tag_of c.args.want.now.key) c.args.want.now.len (view_at w.cells r).note.region) (map_front r (tag_of c.args.want.now.key) c.args.now w.policy) (counters_mapped r (tag_of c.args.want.now.key) c.args.now w.policy) inside c.assign.ensures.assigned) c.hold.ensures.later))
+    (later_on (assigned_later w c.assign.new.self r (assign (tag_of c.args.want.now.key) c.args.want.now.len (view_at w.cells r).metadata.region) (map_front r (tag_of c.args.want.now.key) c.args.now w.policy) (counters_mapped r (tag_of c.args.want.now.key) c.args.now w.policy) inside c.assign.ensures.assigned) c.hold.ensures.later))

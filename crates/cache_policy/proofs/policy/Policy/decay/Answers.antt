@@ -10,7 +10,7 @@ use Rattle.cache_policy.proofs.policy.Policy.decay.Goals as goal
 pub invariant_of-self : goal.invariant_of-self
 invariant_of-self c =
     let f = c.self.inside in
-    let goes : ℕ → Bool = goes_down f.stamps.items f.min_delta c.args.now in
+    let goes : ℕ → Bool = goes_down f.last_accesses.items f.min_delta c.args.now in
     let lists : c.lower_all-self-inside.new.lists ≡ record f.lists { lists = lower goes f.lists.lists } = rw c.deref.ensures.value at c.lower_all-self-inside.ensures.lists in
     record {
       good = rw lists (good_lower (view_of f) c.self.invariant.good goes c.lower_all-self-inside.result);
@@ -23,7 +23,7 @@ invariant_of-self c =
 pub returns-clause-policy : goal.returns-clause-policy
 returns-clause-policy c =
     let f = c.self.inside in
-    let goes : ℕ → Bool = goes_down f.stamps.items f.min_delta c.args.now in
+    let goes : ℕ → Bool = goes_down f.last_accesses.items f.min_delta c.args.now in
     let lists : c.lower_all-self-inside.new.lists ≡ record f.lists { lists = lower goes f.lists.lists } = rw c.deref.ensures.value at c.lower_all-self-inside.ensures.lists in
     let counter : c.lower_all-self-inside.result ≡ rise f.demotions (count_from goes 0 f.lists.lists) = rw c.deref.ensures.value at c.lower_all-self-inside.ensures.counter in
     rw (← c.self.view_is, lists, counter) refl

@@ -19,7 +19,7 @@ index_mut-requires c =
 pub index_mut-requires-2 : goal.index_mut-requires-2
 index_mut-requires-2 c =
     let front = rw (← c.self.view_is) at c.requires.front in
-    omega (arith, front_region (view_of c.self.inside) c.self.invariant.good c.args.region (tag_of c.args.key) front, c.self.invariant.good.stamps, c.self.inside.stamps.ok.0)
+    omega (arith, front_region (view_of c.self.inside) c.self.invariant.good c.args.region (tag_of c.args.key) front, c.self.invariant.good.last_accesses, c.self.inside.last_accesses.ok.0)
 
 pub invariant_of-self : goal.invariant_of-self
 invariant_of-self c =

@@ -1,7 +1,7 @@
 use Rattle.std.proofs.Common.{arith, ◌≡◌, ◌≤◌, ◌<◌, ◌-◌, ◌+◌, ◌∙◌, sym, ap, ℕ, refl, Fits, w32}
 use Rattle.std.specs.Prelude.{IsTrue, OnOk, IfSome, take, drop}
 use Rattle.sparse_tracker.specs.declared.status.Status.TheVariants as status_of
-use Rattle.sparse_tracker.specs.Letters.{ticket_of}
+use Rattle.sparse_tracker.specs.ByteStates.{ticket_of}
 use Rattle.region_cell.proofs.Kept.{copied}
 use Rattle.region_cell.proofs.Statuses.{known, Held, held, waiting_for}
 use Rattle.region_cell.proofs.cell.RegionCell.copy.Goals as goal

@@ -1,5 +1,5 @@
 use Rattle.std.proofs.Common.{◌≡◌, ◌∙◌, ap, []}
-use Rattle.sparse_tracker.specs.Letters.{TrackerView}
+use Rattle.sparse_tracker.specs.ByteStates.{TrackerView}
 use Rattle.sparse_tracker.proofs.Stores.{viewed, renewed}
 use Rattle.sparse_tracker.proofs.tracker.Tracker.renew.Goals as goal
 

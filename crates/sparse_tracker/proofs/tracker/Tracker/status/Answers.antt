@@ -1,7 +1,7 @@
 use Rattle.std.proofs.Common.{arith, ◌≡◌, ◌∙◌, sym, false}
 use Rattle.sparse_tracker.specs.declared.status.Status.TheVariants.{Ready, Waiting, Failed, Open}
-use Rattle.sparse_tracker.specs.Letters.{letters_in}
-use Rattle.sparse_tracker.specs.Kept.{letters_of, any_free}
+use Rattle.sparse_tracker.specs.ByteStates.{byte_states_in}
+use Rattle.sparse_tracker.specs.Kept.{byte_states_of, any_free}
 use Rattle.sparse_tracker.proofs.Ties.{seen}
 use Rattle.sparse_tracker.proofs.Looks.{lacks_is, status_lost, status_waiting, status_ready}
 use Rattle.sparse_tracker.proofs.Stores.{ticket_inside, status_told}
@@ -14,7 +14,7 @@ returns-then-ticket c =
     let f = rw c.deref.ensures.value at c.ticket_of-ticket.ensures in
     let i = ticket_inside c.args.ticket t.len t.tickets.items k c.self.invariant.0.tickets f in
     let l = lacks_is t.len t.taken.ranges t.gaps.items (record { start = k.start; end = k.end }) c.self.invariant.0.gaps (omega (arith, i)) (omega (arith, i)) ∙ sym c.has_absent.ensures ∙ c.if-has_absent.true in
-    let e = status_lost (letters_in k.start k.end (letters_of t.len t.taken.ranges t.gaps.items)) k.failed l in
+    let e = status_lost (byte_states_in k.start k.end (byte_states_of t.len t.taken.ranges t.gaps.items)) k.failed l in
     let g = rw c.if-ticket.true at e in
     rw (← c.self.view_is) (status_told c.args.ticket k (seen t.len t.taken.ranges t.gaps.items t.tickets.items) Failed f (rw c.if-ticket.true g))
 
@@ -25,7 +25,7 @@ returns-else-ticket c =
     let f = rw c.deref.ensures.value at c.ticket_of-ticket.ensures in
     let i = ticket_inside c.args.ticket t.len t.tickets.items k c.self.invariant.0.tickets f in
     let l = lacks_is t.len t.taken.ranges t.gaps.items (record { start = k.start; end = k.end }) c.self.invariant.0.gaps (omega (arith, i)) (omega (arith, i)) ∙ sym c.has_absent.ensures ∙ c.if-has_absent.true in
-    let e = status_lost (letters_in k.start k.end (letters_of t.len t.taken.ranges t.gaps.items)) k.failed l in
+    let e = status_lost (byte_states_in k.start k.end (byte_states_of t.len t.taken.ranges t.gaps.items)) k.failed l in
     let g = rw c.if-ticket.false at e in
     rw (← c.self.view_is) (status_told c.args.ticket k (seen t.len t.taken.ranges t.gaps.items t.tickets.items) Open f (rw c.if-ticket.false g))
 

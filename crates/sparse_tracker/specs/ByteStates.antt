@@ -1,4 +1,4 @@
--- A tracker: a letter for each byte, the open gaps, and the tickets. Each call is an equation on these lists.
+-- A tracker: a state for each byte, the open gaps, and the tickets. Each call is an equation on these lists.
 use Rattle.std.specs.Prelude.{◌+◌, ◌&&◌, ◌||◌, ◌==◌, ℕ, zero, suc, Bool, true, false, not, nat_lt, List, [], ◌∷◌, ◌++◌, length, take, map, find, replicate, slice_range, Option, Some, None, option_map, if◌then◌else◌}
 use Rattle.std.specs.List.{list_all, list_any}
 use Rattle.region_ranges.specs.declared.ranges.ByteRange.{ByteRange}
@@ -10,13 +10,13 @@ use Rattle.sparse_tracker.specs.declared.status.Status.{Status}
 use Rattle.sparse_tracker.specs.declared.status.Status.TheVariants.{Ready, Waiting, Failed, Open}
 
 -- what is known of a byte: nobody fetches it, the owner of that gap does, or it is there
-pub data Letter : Type 0 where
-  absent : Letter
-  pending : ℕ → Letter
-  present : Letter
+pub data ByteState : Type 0 where
+  absent : ByteState
+  pending : ℕ → ByteState
+  present : ByteState
 
 pub record Tracker : Type 0 where
-  pub letters : List Letter
+  pub byte_states : List ByteState
   pub gaps : List OpenGap
   pub tickets : List Ticket
 
@@ -26,32 +26,32 @@ pub record TrackerView : Type 0 where
   pub first_len : ℕ
   pub spare : ℕ
 
-abbrev pub is_absent : Letter → Bool
+abbrev pub is_absent : ByteState → Bool
 is_absent absent = true
 is_absent _ = false
 
-abbrev pub is_present : Letter → Bool
+abbrev pub is_present : ByteState → Bool
 is_present present = true
 is_present _ = false
 
 -- pending under the gap of that id
-abbrev pub is_under : ℕ → Letter → Bool
+abbrev pub is_under : ℕ → ByteState → Bool
 is_under g (pending h) = h == g
 is_under g _ = false
 
--- each letter, by its place, is changed by f
-abbrev pub change_from : ℕ → (ℕ → Letter → Letter) → List Letter → List Letter
+-- each state, by its place, is changed by f
+abbrev pub change_from : ℕ → (ℕ → ByteState → ByteState) → List ByteState → List ByteState
 change_from i f [] = []
 change_from i f (l ∷ ls) = f i l ∷ change_from (i + 1) f ls
 
-abbrev pub change : (ℕ → Letter → Letter) → List Letter → List Letter
+abbrev pub change : (ℕ → ByteState → ByteState) → List ByteState → List ByteState
 change f ls = change_from 0 f ls
 
-abbrev pub letters_in : ℕ → ℕ → List Letter → List Letter
-letters_in start end ls = slice_range ls start end
+abbrev pub byte_states_in : ℕ → ℕ → List ByteState → List ByteState
+byte_states_in start end ls = slice_range ls start end
 
--- the greatest run of absent letters in the range that holds the first absent letter of it at or after `from`
-abbrev pub absent_run : List Letter → ByteRange → ℕ → Option ByteRange
+-- the greatest run of absent states in the range that holds the first absent state of it at or after `from`
+abbrev pub absent_run : List ByteState → ByteRange → ℕ → Option ByteRange
 absent_run ls range from = first_run (map is_absent (take range.end ls)) range.start from
 
 -- the least number that is not in the list
@@ -78,7 +78,7 @@ ticket_of n t = find (λ k. k.number == n) t.tickets
 -- ---- a new tracker, and claims
 
 abbrev pub new_tracker : ℕ → Tracker
-new_tracker len = record { letters = replicate len absent; gaps = []; tickets = [] }
+new_tracker len = record { byte_states = replicate len absent; gaps = []; tickets = [] }
 
 abbrev pub new_ticket : ByteRange → Tracker → Ticket
 new_ticket sub t = record { number = least_unused (numbers t.tickets); start = sub.start; end = sub.end; failed = false }
@@ -88,7 +88,7 @@ with_ticket sub t = record t { tickets = t.tickets ++ new_ticket sub t ∷ [] }
 
 abbrev pub open_gap : ByteRange → Tracker → Tracker
 open_gap run t = let g = least_unused (ids t.gaps) in
-    record t { letters = change (λ i l. if inside run i then pending g else l) t.letters; gaps = t.gaps ++ record { id = g; upto = run.start; end = run.end } ∷ [] }
+    record t { byte_states = change (λ i l. if inside run i then pending g else l) t.byte_states; gaps = t.gaps ++ record { id = g; upto = run.start; end = run.end } ∷ [] }
 
 abbrev pub open_gap_at : Option ByteRange → Tracker → Tracker
 open_gap_at None t = t
@@ -101,7 +101,7 @@ not_behind sub (Some run) = if nat_lt run.start sub.end then Some run else None
 
 -- the run that a claim takes: by places it is told in `Places.antt`
 abbrev pub claimed_run : ByteRange → ByteRange → Tracker → Option ByteRange
-claimed_run range sub t = not_behind sub (absent_run t.letters range sub.start)
+claimed_run range sub t = not_behind sub (absent_run t.byte_states range sub.start)
 
 abbrev pub wait_for_range : ByteRange → ByteRange → Tracker → Tracker
 wait_for_range range sub t = with_ticket sub (open_gap_at (claimed_run range sub t) t)
@@ -112,11 +112,11 @@ new_claim range sub t = record { gap = option_map (λ (run : ByteRange). record 
 
 -- whether a byte of `sub` is absent
 abbrev pub lacks : ByteRange → Tracker → Bool
-lacks sub t = list_any is_absent (letters_in sub.start sub.end t.letters)
+lacks sub t = list_any is_absent (byte_states_in sub.start sub.end t.byte_states)
 
 -- whether all bytes of `sub` are present
 abbrev pub has_all : ByteRange → Tracker → Bool
-has_all sub t = list_all is_present (letters_in sub.start sub.end t.letters)
+has_all sub t = list_all is_present (byte_states_in sub.start sub.end t.byte_states)
 
 abbrev pub wait_if_pending : ByteRange → Tracker → Tracker
 wait_if_pending sub t = if lacks sub t then t else with_ticket sub t
@@ -131,9 +131,9 @@ abbrev pub move_gap : ℕ → ℕ → List OpenGap → List OpenGap
 move_gap g to [] = []
 move_gap g to (o ∷ os) = if o.id == g then (if to == o.end then os else record o { upto = to } ∷ os) else o ∷ move_gap g to os
 
--- pending letters of the gap below `to` become present
+-- pending states of the gap below `to` become present
 abbrev pub progress : ℕ → ℕ → Tracker → Tracker
-progress g to t = record t { letters = change (λ i l. if is_under g l && nat_lt i to then present else l) t.letters; gaps = move_gap g to t.gaps }
+progress g to t = record t { byte_states = change (λ i l. if is_under g l && nat_lt i to then present else l) t.byte_states; gaps = move_gap g to t.gaps }
 
 abbrev pub complete_at : Option OpenGap → Tracker → Tracker
 complete_at None t = t
@@ -147,13 +147,13 @@ abbrev pub without_gap : ℕ → List OpenGap → List OpenGap
 without_gap g [] = []
 without_gap g (o ∷ os) = if o.id == g then os else o ∷ without_gap g os
 
--- a ticket whose sub-range holds a letter pending under the gap is marked
-abbrev pub fail_ticket : ℕ → List Letter → Ticket → Ticket
-fail_ticket g ls k = record k { failed = k.failed || list_any (is_under g) (letters_in k.start k.end ls) }
+-- a ticket whose sub-range holds a state pending under the gap is marked
+abbrev pub fail_ticket : ℕ → List ByteState → Ticket → Ticket
+fail_ticket g ls k = record k { failed = k.failed || list_any (is_under g) (byte_states_in k.start k.end ls) }
 
--- the gap's pending letters become absent, and the gap is closed
+-- the gap's pending states become absent, and the gap is closed
 abbrev pub fail : ℕ → Tracker → Tracker
-fail g t = record { letters = map (λ l. if is_under g l then absent else l) t.letters; gaps = without_gap g t.gaps; tickets = map (fail_ticket g t.letters) t.tickets }
+fail g t = record { byte_states = map (λ l. if is_under g l then absent else l) t.byte_states; gaps = without_gap g t.gaps; tickets = map (fail_ticket g t.byte_states) t.tickets }
 
 -- ---- tickets
 
@@ -164,12 +164,12 @@ without_ticket n (k ∷ ks) = if k.number == n then ks else k ∷ without_ticket
 abbrev pub leave : ℕ → Tracker → Tracker
 leave n t = record t { tickets = without_ticket n t.tickets }
 
--- by the letters of the sub-range, and by the mark
-abbrev pub status_of : List Letter → Bool → Status
+-- by the states of the sub-range, and by the mark
+abbrev pub status_of : List ByteState → Bool → Status
 status_of ls failed =
     if list_all is_present ls then Ready
     else if not (list_any is_absent ls) then Waiting
     else if failed then Failed else Open
 
 abbrev pub status : Ticket → Tracker → Status
-status k t = status_of (letters_in k.start k.end t.letters) k.failed
+status k t = status_of (byte_states_in k.start k.end t.byte_states) k.failed
