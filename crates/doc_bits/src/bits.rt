@@ -120,3 +120,11 @@ impl DocBits {
         Places::new(&self.words)
     }
 }
+
+// A missing proof of `Send` or `Sync` shows here, and not first at the threads above.
+fn crosses<T: Send + Sync>() {}
+
+/// A set may be handed to another thread, and shared between threads.
+pub fn bits_cross() {
+    crosses::<DocBits>()
+}

@@ -58,3 +58,11 @@ impl Tally {
         out.fill_at_least(&self.counts, m);
     }
 }
+
+// A missing proof of `Send` or `Sync` shows here, and not first at the threads above.
+fn crosses<T: Send + Sync>() {}
+
+/// A tally may be handed to another thread, and shared between threads.
+pub fn tallies_cross() {
+    crosses::<Tally>()
+}

@@ -1,4 +1,6 @@
-use super::*;
+// Tests of the reading and printing of queries.
+use byte_text::Text;
+use query_lang::{Query, QueryError};
 use std::alloc::{AllocError, Global};
 
 fn refusal(alloc: Global, text: &[u8]) -> Option<QueryError> {

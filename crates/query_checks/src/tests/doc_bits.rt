@@ -1,18 +1,8 @@
+// Tests of sets of documents and of tallies.
 ghost use Rattle.std.specs.Prelude.{◌≡◌, ◌<◌, length, IfOk};
 
-use crate::{DocBits, Tally};
+use doc_bits::{DocBits, Tally};
 use std::alloc::{AllocError, Global};
-
-// A missing proof of `Send` or `Sync` shows here, and not first at the threads above.
-fn crosses<T: Send + Sync>() {}
-
-fn bits_cross() {
-    crosses::<DocBits>()
-}
-
-fn tallies_cross() {
-    crosses::<Tally>()
-}
 
 // The set of the documents that are a multiple of `step`.
 fn multiples(alloc: Global, n: u32, step: u32) -> Result<DocBits, AllocError>

@@ -1,0 +1,3 @@
+// One file a crate.
+mod doc_bits;
+mod query_lang;
