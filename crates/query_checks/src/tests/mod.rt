@@ -1,3 +1,3 @@
-// One file a crate.
-mod doc_bits;
-mod query_lang;
+// Tests, one file a crate.
+mod doc_bits_tests;
+mod query_lang_tests;
