@@ -29,7 +29,7 @@ pub refused_of : {T : Type 0} (r : Result T BytesError) (P : Type 0) → (IsErrO
 refused_of (Ok x) P f g a l = absurd (cc)
 refused_of {T = T} (Err e) P f g a l = refused_by T e P (λ same. f (ap Err same)) (λ m same. g m (ap Err same)) l
 
--- the count stood higher before
+-- the count unchanged higher before
 pub caused_later : (r : Option BytesError) (a b n mount : ℕ) (gone : Bool) → a ≤ b → IsCaused b n mount gone r → IsCaused a n mount gone r
 caused_later None a b n mount gone le h = tt
 caused_later (Some Fault) a b n mount gone le h = omega (arith, le, h)

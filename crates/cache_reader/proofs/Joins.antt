@@ -7,9 +7,9 @@ use Rattle.cache_door.specs.Machine.{State}
 use Rattle.cache_reader.specs.declared.report.Report.{Report}
 use Rattle.cache_reader.specs.Reports.{no_bytes, Grew, Counted}
 use Rattle.cache_reader.specs.Bounds.{Worked}
-use Rattle.cache_reader.specs.Parts.{Line}
+use Rattle.cache_reader.specs.Parts.{ReadSetting}
 use Rattle.cache_reader.specs.Going.{moment, Goes}
-pub use Rattle.cache_reader.specs.Through.{grew_none, grew_more, rose_first, rose_then, worked_none, worked_more, goes_none, goes_more, counted_none, counted_more, took_none, took_both, bounded_none, bounded_more, takes_none, takes_more, no_reads, more_reads}
+pub use Rattle.cache_reader.specs.Through.{grew_none, grew_more, rose_first, rose_then, worked_none, worked_more, goes_none, goes_more, counted_none, counted_more, took_none, took_both, bounded_none, bounded_more, takes_none, takes_more}
 
 pub grew_through : (a b r n : ℕ) → Grew a b r → Grew 0 r n → Grew a b n
 grew_through a b r n h k = record {
@@ -39,6 +39,6 @@ worked_idle a b h =
       clears = omega (arith, cv, h.clears.later);
     }
 
-pub door_step : (c : Line) (faults : ℕ) (taken : Option (List (ℕ × ℕ × ℕ))) (a b : ℕ) (p q r s : ℕ → Bool) (v w : Work) (t u : Option State)
+pub door_step : (c : ReadSetting) (faults : ℕ) (taken : Option (List (ℕ × ℕ × ℕ))) (a b : ℕ) (p q r s : ℕ → Bool) (v w : Work) (t u : Option State)
     → a ≤ b → Grown p q → s ≡ r → Worked no_bytes v w → Goes c no_bytes (moment faults taken a p r v t) (moment faults taken b q s w u)
 door_step c faults taken a b p q r s v w t u le grown same work = record { faults = le_refl faults; frame_faults = le; seen = grown; unmounted = same; work = work }

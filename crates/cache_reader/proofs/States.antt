@@ -14,7 +14,7 @@ use Rattle.cache_door.specs.Machine.{State, hold_at, store, fail, leave, take_by
 use Rattle.cache_door.specs.Good.{Good}
 use Rattle.cache_door.specs.Doors.{HoldView, hold_view, nothing, SameState}
 use Rattle.cache_reader.specs.Reports.{Grew}
-use Rattle.cache_reader.specs.Parts.{Line}
+use Rattle.cache_reader.specs.Parts.{ReadSetting}
 use Rattle.cache_reader.specs.Stored.{gap_stored}
 use Rattle.cache_reader.specs.Holds.{Unfailed}
 use Rattle.cache_reader.specs.Alone.{SamePolicy, Copies}
@@ -73,7 +73,7 @@ copies_false taken.Failed (Some s) a before mid now other answer fault le = λ t
 copies_false taken.FrameFault (Some s) a before mid now other answer fault le = λ took calm. absurd (calm (rose_first before mid now le (fault refl)))
 
 -- behind the store of its gap a hold is copied
-pub held_copies : {tells : Bool} {files : ℕ → ℕ → List ℕ} (c : Line) (a b file base : ℕ) (gap : Option ByteRange) (s : State) (told : HoldView) (before mid now : ℕ) (copied : Bool)
+pub held_copies : {tells : Bool} {files : ℕ → ℕ → List ℕ} (c : ReadSetting) (a b file base : ℕ) (gap : Option ByteRange) (s : State) (told : HoldView) (before mid now : ℕ) (copied : Bool)
     → Unfailed a s → length s.holds ≡ 1 → Good tells files (gap_stored c a file base gap s) → told ≡ hold_view (hold_at (gap_stored c a file base gap s) b) → b ≡ a → told.gap_end ≤ told.upto
     → Copies b mid now copied (gap_stored c a file base gap s) → before ≤ mid → (Rose before now → ⊥) → copied ≡ true
 held_copies c a b file base gap s told before mid now copied u one good is same closed copies le calm =

@@ -9,7 +9,7 @@ ghost use Rattle.region_cell.specs.Cells.{file_of, part_of};
 ghost use Rattle.cache_door.specs.Doors.{range_start, range_end};
 ghost use Rattle.cache_door.specs.Machine.{State, store, hold_at};
 ghost use Rattle.cache_reader.specs.Reports.{fetched_bytes};
-ghost use Rattle.cache_reader.specs.Parts.{line};
+ghost use Rattle.cache_reader.specs.Parts.{read_setting};
 ghost use Rattle.cache_reader.specs.Going.{Between, Goes};
 ghost use Rattle.cache_reader.specs.Filling.{piece_hold, piece_count, Partly, Whole, SameHold};
 ghost use Rattle.cache_reader.specs.Stored.{rest_stored, gap_stored};
@@ -48,7 +48,7 @@ fn store_piece<A: Archive, D: CacheDoor<A>, S: BlobSource<A>>(
     ensures frame { result ≡ Ok false → Rose (D.frame_faults door.old) (D.frame_faults door.new) }
     ensures turned { result ≡ Ok false → Rose (D.work door.old).turned_away (D.work door.new).turned_away }
     ensures same { S.which source.new ≡ S.which source.old }
-    ensures goes { Between (Goes (line A.tells A.blobs table.now setting.now) (fetched_bytes (piece_count len result))) S.faults S.taken D.frame_faults D.seen_gone D.unmounted D.work D.state source.old source.new door.old door.new }
+    ensures goes { Between (Goes (read_setting A.tells A.blobs table.now setting.now) (fetched_bytes (piece_count len result))) S.faults S.taken D.frame_faults D.seen_gone D.unmounted D.work D.state source.old source.new door.old door.new }
     ensures taken { IsTrue A.tells → Takes (S.taken source.old) (S.taken source.new) (slice_of (content_places A.blobs table.now.number file) at len) result }
     ensures kept { SamePolicy (D.state door.old) (D.state door.new) }
     ensures stored { result ≡ Ok true → IsTrue A.tells → D.state door.new ≡ option_map (λ s. store (D.actor door.old) (hold_at s (D.actor door.old)) (slice_of (content A.blobs table.now.number file) at len) s) (D.state door.old) }
@@ -82,10 +82,10 @@ fn fill<A: Archive, D: CacheDoor<A>, S: BlobSource<A>>(
     ensures frame { result ≡ Ok false → Rose (D.frame_faults door.old) (D.frame_faults door.new) }
     ensures turned { result ≡ Ok false → Rose (D.work door.old).turned_away (D.work door.new).turned_away }
     ensures same { S.which source.new ≡ S.which source.old }
-    ensures partly { Between (Partly (line A.tells A.blobs table.now setting.now) (gap.end - gap.start) report.old report.new) S.faults S.taken D.frame_faults D.seen_gone D.unmounted D.work D.state source.old source.new door.old door.new }
-    ensures whole { result ≡ Ok true → Between (Whole (line A.tells A.blobs table.now setting.now) (gap.end - gap.start) report.old report.new) S.faults S.taken D.frame_faults D.seen_gone D.unmounted D.work D.state source.old source.new door.old door.new }
+    ensures partly { Between (Partly (read_setting A.tells A.blobs table.now setting.now) (gap.end - gap.start) report.old report.new) S.faults S.taken D.frame_faults D.seen_gone D.unmounted D.work D.state source.old source.new door.old door.new }
+    ensures whole { result ≡ Ok true → Between (Whole (read_setting A.tells A.blobs table.now setting.now) (gap.end - gap.start) report.old report.new) S.faults S.taken D.frame_faults D.seen_gone D.unmounted D.work D.state source.old source.new door.old door.new }
     ensures kept { SamePolicy (D.state door.old) (D.state door.new) }
-    ensures stored { result ≡ Ok true → IsTrue A.tells → (s : State) → D.state door.old ≡ Some s → D.state door.new ≡ Some (rest_stored (line A.tells A.blobs table.now setting.now) (D.actor door.old) file base gap.start gap.end s) }
+    ensures stored { result ≡ Ok true → IsTrue A.tells → (s : State) → D.state door.old ≡ Some s → D.state door.new ≡ Some (rest_stored (read_setting A.tells A.blobs table.now setting.now) (D.actor door.old) file base gap.start gap.end s) }
     ensures took { result ≡ Ok true → IsTrue A.tells → Took (S.taken source.old) (S.taken source.new) (slice_of (content_places A.blobs table.now.number file) (base + gap.start) (gap.end - gap.start)) }
 {
     let _length = table.length(file);
@@ -134,11 +134,11 @@ pub(crate) fn fill_gap<A: Archive, D: CacheDoor<A>, S: BlobSource<A>>(
     ensures fault { IsErrOf result FetchError.Fault → Rose (S.faults source.old) (S.faults source.new) }
     ensures turned { result ≡ Ok false → Rose (D.work door.old).turned_away (D.work door.new).turned_away }
     ensures same { S.which source.new ≡ S.which source.old }
-    ensures partly { Between (Partly (line A.tells A.blobs table.now setting.now) (range_end gap - range_start gap) report.old report.new) S.faults S.taken D.frame_faults D.seen_gone D.unmounted D.work D.state source.old source.new door.old door.new }
-    ensures whole { result ≡ Ok true → Between (Whole (line A.tells A.blobs table.now setting.now) (range_end gap - range_start gap) report.old report.new) S.faults S.taken D.frame_faults D.seen_gone D.unmounted D.work D.state source.old source.new door.old door.new }
+    ensures partly { Between (Partly (read_setting A.tells A.blobs table.now setting.now) (range_end gap - range_start gap) report.old report.new) S.faults S.taken D.frame_faults D.seen_gone D.unmounted D.work D.state source.old source.new door.old door.new }
+    ensures whole { result ≡ Ok true → Between (Whole (read_setting A.tells A.blobs table.now setting.now) (range_end gap - range_start gap) report.old report.new) S.faults S.taken D.frame_faults D.seen_gone D.unmounted D.work D.state source.old source.new door.old door.new }
     ensures frame { result ≡ Ok false → Rose (D.frame_faults door.old) (D.frame_faults door.new) }
     ensures kept { SamePolicy (D.state door.old) (D.state door.new) }
-    ensures stored { result ≡ Ok true → IsTrue A.tells → (s : State) → D.state door.old ≡ Some s → D.state door.new ≡ Some (gap_stored (line A.tells A.blobs table.now setting.now) (D.actor door.old) file base gap s) }
+    ensures stored { result ≡ Ok true → IsTrue A.tells → (s : State) → D.state door.old ≡ Some s → D.state door.new ≡ Some (gap_stored (read_setting A.tells A.blobs table.now setting.now) (D.actor door.old) file base gap s) }
     ensures took { result ≡ Ok true → IsTrue A.tells → Took (S.taken source.old) (S.taken source.new) (slice_of (content_places A.blobs table.now.number file) (base + range_start gap) (range_end gap - range_start gap)) }
 {
     match gap {

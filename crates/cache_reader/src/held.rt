@@ -11,9 +11,9 @@ ghost use Rattle.cache_door.specs.Doors.{Grown, range_start, range_end, nothing}
 ghost use Rattle.cache_door.specs.Machine.{State, leave, hold_at};
 ghost use Rattle.cache_reader.specs.Reports.{no_bytes, direct_bytes, Counted};
 ghost use Rattle.cache_reader.specs.Bounds.{Worked};
-ghost use Rattle.cache_reader.specs.Parts.{line};
+ghost use Rattle.cache_reader.specs.Parts.{read_setting};
 ghost use Rattle.cache_reader.specs.Going.{Between, is_memory};
-ghost use Rattle.cache_reader.specs.Filling.{Partly, Whole, PartGoes, is_answered};
+ghost use Rattle.cache_reader.specs.Filling.{Partly, Whole, PartGoes, is_answered, given};
 ghost use Rattle.cache_reader.specs.Stored.{gap_stored};
 ghost use Rattle.cache_reader.specs.Holds.{Unfailed};
 ghost use Rattle.cache_reader.specs.Alone.{HeldExactly, SamePolicy, Copies};
@@ -79,10 +79,10 @@ fn read_held<A: Archive, D: CacheDoor<A>, S: BlobSource<A>>(
     ensures fault { IsErrOf result FetchError.Fault → Rose (S.faults source.old) (S.faults source.new) }
     ensures turned { result ≡ Ok false → Rose (D.work door.old).turned_away (D.work door.new).turned_away }
     ensures same { S.which source.new ≡ S.which source.old }
-    ensures partly { Between (Partly (line A.tells A.blobs table.now setting.now) (range_end gap - range_start gap) report.old report.new) S.faults S.taken D.frame_faults D.seen_gone D.unmounted D.work D.state source.old source.new door.old door.new }
-    ensures whole { result ≡ Ok true → Between (Whole (line A.tells A.blobs table.now setting.now) (range_end gap - range_start gap) report.old report.new) S.faults S.taken D.frame_faults D.seen_gone D.unmounted D.work D.state source.old source.new door.old door.new }
+    ensures partly { Between (Partly (read_setting A.tells A.blobs table.now setting.now) (range_end gap - range_start gap) report.old report.new) S.faults S.taken D.frame_faults D.seen_gone D.unmounted D.work D.state source.old source.new door.old door.new }
+    ensures whole { result ≡ Ok true → Between (Whole (read_setting A.tells A.blobs table.now setting.now) (range_end gap - range_start gap) report.old report.new) S.faults S.taken D.frame_faults D.seen_gone D.unmounted D.work D.state source.old source.new door.old door.new }
     ensures kept { SamePolicy (D.state door.old) (D.state door.new) }
-    ensures stored { result ≡ Ok true → IsTrue A.tells → (s : State) → D.state door.old ≡ Some s → let t = gap_stored (line A.tells A.blobs table.now setting.now) (D.actor door.old) file base gap s in D.state door.new ≡ Some (leave (D.actor door.old) (hold_at t (D.actor door.old)) t) }
+    ensures stored { result ≡ Ok true → IsTrue A.tells → (s : State) → D.state door.old ≡ Some s → let t = gap_stored (read_setting A.tells A.blobs table.now setting.now) (D.actor door.old) file base gap s in D.state door.new ≡ Some (leave (D.actor door.old) (hold_at t (D.actor door.old)) t) }
     ensures took { result ≡ Ok true → IsTrue A.tells → Took (S.taken source.old) (S.taken source.new) (slice_of (content_places A.blobs table.now.number file) (base + range_start gap) (range_end gap - range_start gap)) }
     ensures copies { IsTrue A.tells → (s : State) → D.state door.old ≡ Some s → length s.holds ≡ 1 → Unfailed (D.actor door.old) s → (Rose (D.frame_faults door.old) (D.frame_faults door.new) → ⊥) → result ≢ Ok false }
 {
@@ -162,9 +162,9 @@ pub(crate) fn read_entered<A: Archive, D: CacheDoor<A>, S: BlobSource<A>>(
     ensures cause { IsErrOf result BytesError.Fault → Rose (S.faults source.old) (S.faults source.new) }
     ensures present { (m : ℕ) → result ≢ Err (BytesError.Gone m) }
     ensures bytes { IsTrue A.tells → IsTrue (D.frames_tell door.old) → OnOk result (out.new ≡ slice_of (content A.blobs table.now.number file) at (length out.old)) }
-    ensures part { Between (PartGoes (line A.tells A.blobs table.now setting.now) (length out.old) (is_answered result) (is_memory result) report.old report.new) S.faults S.taken D.frame_faults D.seen_gone D.unmounted D.work D.state source.old source.new door.old door.new }
+    ensures part { Between (PartGoes (read_setting A.tells A.blobs table.now setting.now) (given (is_answered result) (length out.old)) (is_memory result) report.old report.new) S.faults S.taken D.frame_faults D.seen_gone D.unmounted D.work D.state source.old source.new door.old door.new }
     ensures kept { SamePolicy (D.state door.old) (D.state door.new) }
-    ensures exact { Between (HeldExactly (line A.tells A.blobs table.now setting.now) (D.actor door.old) file base gap (is_memory result) report.old report.new) S.faults S.taken D.frame_faults D.seen_gone D.unmounted D.work D.state source.old source.new door.old door.new }
+    ensures exact { Between (HeldExactly (read_setting A.tells A.blobs table.now setting.now) (D.actor door.old) file base gap (is_memory result) report.old report.new) S.faults S.taken D.frame_faults D.seen_gone D.unmounted D.work D.state source.old source.new door.old door.new }
 {
     match read_held(
         alloc, door, source, table, file, base, gap, setting, out, report,

@@ -1,6 +1,6 @@
 // One part of a file, read through a door: it lies in one region and in one of the region's ranges.
 ghost use Rattle.std.specs.Option.{ForSome};
-ghost use Rattle.std.specs.Prelude.{◌≡◌, ◌<◌, ◌≤◌, ◌-◌, ◌/◌, Some, IsTrue, OnOk, length};
+ghost use Rattle.std.specs.Prelude.{◌≡◌, ◌<◌, ◌≤◌, ◌-◌, ◌/◌, Some, [], ◌∷◌, IsTrue, OnOk, length};
 ghost use Rattle.region_ranges.specs.Keys.{tag_of, IsConfig};
 ghost use Rattle.region_cell.specs.Cells.{region_bytes};
 ghost use Rattle.blob_parts.specs.Content.{content, slice_of};
@@ -10,11 +10,11 @@ ghost use Rattle.cache_door.specs.Machine.{State};
 ghost use Rattle.directory_input.specs.Causes.{IsCaused, refusal};
 ghost use Rattle.cache_reader.specs.Reports.{no_bytes};
 ghost use Rattle.cache_reader.specs.Bounds.{Worked};
-ghost use Rattle.cache_reader.specs.Parts.{line};
+ghost use Rattle.cache_reader.specs.Parts.{read_setting};
 ghost use Rattle.cache_reader.specs.Going.{Between, is_memory};
-ghost use Rattle.cache_reader.specs.Filling.{PartGoes, is_answered};
+ghost use Rattle.cache_reader.specs.Filling.{PartGoes, is_answered, given};
 ghost use Rattle.cache_door.specs.Takes.{want_of};
-ghost use Rattle.cache_reader.specs.Alone.{went_part, Exactly, LastFits, Looked};
+ghost use Rattle.cache_reader.specs.Alone.{part_outcome, in_file, Calmly, ByEntries, LastFits, Looked};
 
 use crate::Report;
 use crate::held::{direct, read_entered};
@@ -131,9 +131,9 @@ fn enter_part<A: Archive, D: CacheDoor<A>, S: BlobSource<A>>(
     ensures same { S.which source.new ≡ S.which source.old }
     ensures cause { IsCaused (S.faults source.old) (S.faults source.new) setting.now.mount (D.seen_gone door.new setting.now.mount) (refusal result) }
     ensures bytes { IsTrue A.tells → IsTrue (D.frames_tell door.old) → OnOk result (out.new ≡ slice_of (content A.blobs table.now.number file) part.start (length out.old)) }
-    ensures part { Between (PartGoes (line A.tells A.blobs table.now setting.now) (part.end - part.start) (is_answered result) (is_memory result) report.old report.new) S.faults S.taken D.frame_faults D.seen_gone D.unmounted D.work D.state source.old source.new door.old door.new }
+    ensures part { Between (PartGoes (read_setting A.tells A.blobs table.now setting.now) (given (is_answered result) (part.end - part.start)) (is_memory result) report.old report.new) S.faults S.taken D.frame_faults D.seen_gone D.unmounted D.work D.state source.old source.new door.old door.new }
     ensures fits { LastFits setting.now.mount setting.now.time last.new (D.state door.new) }
-    ensures exact { Between (Exactly (line A.tells A.blobs table.now setting.now) (went_part (line A.tells A.blobs table.now setting.now) (D.actor door.old) file part) (is_memory result) report.old report.new) S.faults S.taken D.frame_faults D.seen_gone D.unmounted D.work D.state source.old source.new door.old door.new }
+    ensures outcome { Between (Calmly (read_setting A.tells A.blobs table.now setting.now) (part_outcome (read_setting A.tells A.blobs table.now setting.now) (D.actor door.old) file part) (is_memory result) report.old report.new) S.faults S.taken D.frame_faults D.seen_gone D.unmounted D.work D.state source.old source.new door.old door.new }
 {
     let _length = table.length(file);
     door.lesson();
@@ -191,9 +191,9 @@ pub(crate) fn read_part<A: Archive, D: CacheDoor<A>, S: BlobSource<A>>(
     ensures same { S.which source.new ≡ S.which source.old }
     ensures cause { IsCaused (S.faults source.old) (S.faults source.new) setting.now.mount (D.seen_gone door.new setting.now.mount) (refusal result) }
     ensures bytes { IsTrue A.tells → IsTrue (D.frames_tell door.old) → OnOk result (out.new ≡ slice_of (content A.blobs table.now.number file) part.start (length out.old)) }
-    ensures part { Between (PartGoes (line A.tells A.blobs table.now setting.now) (part.end - part.start) (is_answered result) (is_memory result) report.old report.new) S.faults S.taken D.frame_faults D.seen_gone D.unmounted D.work D.state source.old source.new door.old door.new }
+    ensures part { Between (PartGoes (read_setting A.tells A.blobs table.now setting.now) (given (is_answered result) (part.end - part.start)) (is_memory result) report.old report.new) S.faults S.taken D.frame_faults D.seen_gone D.unmounted D.work D.state source.old source.new door.old door.new }
     ensures fits { LastFits setting.now.mount setting.now.time last.new (D.state door.new) }
-    ensures exact { Between (Exactly (line A.tells A.blobs table.now setting.now) (went_part (line A.tells A.blobs table.now setting.now) (D.actor door.old) file part) (is_memory result) report.old report.new) S.faults S.taken D.frame_faults D.seen_gone D.unmounted D.work D.state source.old source.new door.old door.new }
+    ensures entries { Between (ByEntries (read_setting A.tells A.blobs table.now setting.now) (D.actor door.old) (in_file file part ∷ []) (is_memory result) report.old report.new) S.faults S.taken D.frame_faults D.seen_gone D.unmounted D.work D.state source.old source.new door.old door.new }
 {
     let _length = table.length(file);
     door.lesson();

@@ -2,7 +2,7 @@ use Rattle.std.proofs.Common.{◌≡◌, ◌∙◌, true, Ok, Some, ap}
 use Rattle.blob_parts.specs.Content.{content}
 use Rattle.cache_door.specs.Doors.{Agrees}
 use Rattle.cache_reader.specs.Alone.{Copies}
-use Rattle.cache_reader.specs.Parts.{line}
+use Rattle.cache_reader.specs.Parts.{read_setting}
 use Rattle.cache_reader.specs.Stored.{gap_stored}
 use Rattle.cache_reader.proofs.Joins.{rose_first}
 use Rattle.cache_reader.proofs.States.{left_kept, left_at, held_copies, same_bytes}
@@ -21,7 +21,7 @@ returns-in-Ok-true-clause-took g c is told = c.in-Ok-true.ensures.took (ap Ok c.
 
 pub returns-in-Ok-true-clause-copies : goal.returns-in-Ok-true-clause-copies
 returns-in-Ok-true-clause-copies g c told s e one unfailed still is =
-    let l = line g.A.Archive.tells g.A.Archive.blobs c.args.table.now c.args.setting.now in
+    let l = read_setting g.A.Archive.tells g.A.Archive.blobs c.args.table.now c.args.setting.now in
     let a = g.D.CacheDoor.actor c.args.door.now in
     let b = g.D.CacheDoor.actor c.fill_gap.new.door in
     let t = gap_stored l a c.args.file c.args.base c.args.gap s in

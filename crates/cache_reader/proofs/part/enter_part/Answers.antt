@@ -11,8 +11,9 @@ use Rattle.cache_reader.proofs.Entries.{known_of, exactly_held, exactly_passed, 
 use Rattle.blob_parts.specs.Tables.{file_length}
 use Rattle.cache_door.specs.Machine.{State, enter}
 use Rattle.cache_reader.specs.declared.part.Last.{Last}
-use Rattle.cache_reader.specs.Parts.{line}
+use Rattle.cache_reader.specs.Parts.{read_setting}
 use Rattle.cache_reader.specs.Going.{moment}
+use Rattle.cache_reader.specs.Filling.{is_answered}
 use Rattle.cache_reader.specs.Alone.{LastFits}
 use Rattle.cache_reader.proofs.Rooms.{entered_fits, last_kept}
 use Rattle.cache_reader.proofs.Stores.{told_of}
@@ -21,13 +22,13 @@ use Rattle.cache_reader.proofs.part.enter_part.Goals as goal
 pub returns-in-Ok-true-clause-part : goal.returns-in-Ok-true-clause-part
 returns-in-Ok-true-clause-part g c =
     let work = rw c.in-Ok-Held.field-0-is at c.in-Ok-Held.ensures.work in
-    part_after _ (c.args.part.end - c.args.part.start) _ _ _ _ _ _ _ (door_step _ _ _ _ _ _ _ _ _ _ _ _ _ c.enter.ensures.faults c.enter.ensures.seen c.enter.ensures.unmounted (worked_idle _ _ work)) refl
+    part_after _ _ _ _ _ _ _ _ (door_step _ _ _ _ _ _ _ _ _ _ _ _ _ c.enter.ensures.faults c.enter.ensures.seen c.enter.ensures.unmounted (worked_idle _ _ work)) refl
     (rw c.requires.len at c.in-Ok-true.ensures.part)
 
 pub returns-in-Ok-false-clause-part : goal.returns-in-Ok-false-clause-part
 returns-in-Ok-false-clause-part g c =
     let work = rw c.in-Ok-Held.field-0-is at c.in-Ok-Held.ensures.work in
-    part_after _ (c.args.part.end - c.args.part.start) _ _ _ _ _ _ _ (door_step _ _ _ _ _ _ _ _ _ _ _ _ _ c.enter.ensures.faults c.enter.ensures.seen c.enter.ensures.unmounted (worked_idle _ _ work)) refl
+    part_after _ _ _ _ _ _ _ _ (door_step _ _ _ _ _ _ _ _ _ _ _ _ _ c.enter.ensures.faults c.enter.ensures.seen c.enter.ensures.unmounted (worked_idle _ _ work)) refl
     (rw c.requires.len at c.in-Ok-false.ensures.part)
 
 pub returns-in-Ok-false-clause-bytes : goal.returns-in-Ok-false-clause-bytes
@@ -40,7 +41,7 @@ returns-in-Err-read_entered-clause-cause g c =
 pub returns-in-Err-read_entered-clause-part : goal.returns-in-Err-read_entered-clause-part
 returns-in-Err-read_entered-clause-part g c =
     let work = rw c.in-Ok-Held.field-0-is at c.in-Ok-Held.ensures.work in
-    part_after _ (c.args.part.end - c.args.part.start) _ _ _ _ _ _ _ (door_step _ _ _ _ _ _ _ _ _ _ _ _ _ c.enter.ensures.faults c.enter.ensures.seen c.enter.ensures.unmounted (worked_idle _ _ work)) refl
+    part_after _ _ _ _ _ _ _ _ (door_step _ _ _ _ _ _ _ _ _ _ _ _ _ c.enter.ensures.faults c.enter.ensures.seen c.enter.ensures.unmounted (worked_idle _ _ work)) refl
     (rw c.requires.len at c.in-Err-read_entered.ensures.part)
 
 pub returns-in-Ok-NoRoom-clause-cause : goal.returns-in-Ok-NoRoom-clause-cause
@@ -49,7 +50,7 @@ returns-in-Ok-NoRoom-clause-cause g c = caused_of c.direct.result _ _ _ _ c.dire
 pub returns-in-Ok-NoRoom-clause-part : goal.returns-in-Ok-NoRoom-clause-part
 returns-in-Ok-NoRoom-clause-part g c =
     let work = rw c.in-Ok-NoRoom.field-0-is at c.in-Ok-NoRoom.ensures.work in
-    part_direct _ (c.args.part.end - c.args.part.start) 0 0 _ _ _ _ _ _ _ _ (omega arith) (short_part c.args.setting.now.config.range c.args.part.start c.args.part.end c.requires.limits.range.0 c.requires.part.0 c.requires.part.2)
+    part_direct _ (c.args.part.end - c.args.part.start) 0 0 (is_answered c.direct.result) _ _ _ _ _ _ _ (omega arith) (short_part c.args.setting.now.config.range c.args.part.start c.args.part.end c.requires.limits.range.0 c.requires.part.0 c.requires.part.2)
     (partly_of _ _ _ _ (door_step _ _ _ _ _ _ _ _ _ _ _ _ _ c.enter.ensures.faults c.enter.ensures.seen c.enter.ensures.unmounted (worked_away _ _ work)) refl)
     (rose_away _ _ work) refl (source_step _ _ _ _ _ _ _ _ _ _ c.direct.ensures.later)
     (on_answered c.direct.result _ (rw c.requires.len at c.direct.ensures.report)) (λ e. c.direct.ensures.unreported (on_refused c.direct.result e))
@@ -59,15 +60,15 @@ returns-in-Ok-NoRoom-clause-part g c =
 pub returns-in-Ok-Gone-clause-part : goal.returns-in-Ok-Gone-clause-part
 returns-in-Ok-Gone-clause-part g c =
     let work = rw c.in-Ok-Gone.field-0-is at c.in-Ok-Gone.ensures.work in
-    part_none _ (c.args.part.end - c.args.part.start) _ _ _ _ (door_step _ _ _ _ _ _ _ _ _ _ _ _ _ c.enter.ensures.faults c.enter.ensures.seen c.enter.ensures.unmounted (worked_idle _ _ work)) refl
+    part_none _ _ _ _ _ (door_step _ _ _ _ _ _ _ _ _ _ _ _ _ c.enter.ensures.faults c.enter.ensures.seen c.enter.ensures.unmounted (worked_idle _ _ work)) refl
 
 pub returns-in-Err-clause-part : goal.returns-in-Err-clause-part
 returns-in-Err-clause-part g c =
-    part_none _ (c.args.part.end - c.args.part.start) _ _ _ _ (door_step _ _ _ _ _ _ _ _ _ _ _ _ _ c.enter.ensures.faults c.enter.ensures.seen c.enter.ensures.unmounted (worked_idle _ _ c.in-Err.ensures.work)) refl
+    part_none _ _ _ _ _ (door_step _ _ _ _ _ _ _ _ _ _ _ _ _ c.enter.ensures.faults c.enter.ensures.seen c.enter.ensures.unmounted (worked_idle _ _ c.in-Err.ensures.work)) refl
 
-pub returns-in-Ok-true-clause-exact : goal.returns-in-Ok-true-clause-exact
-returns-in-Ok-true-clause-exact g c =
-    let l = line g.A.Archive.tells g.A.Archive.blobs c.args.table.now c.args.setting.now in
+pub returns-in-Ok-true-clause-outcome : goal.returns-in-Ok-true-clause-outcome
+returns-in-Ok-true-clause-outcome g c =
+    let l = read_setting g.A.Archive.tells g.A.Archive.blobs c.args.table.now c.args.setting.now in
     let a = g.D.CacheDoor.actor c.args.door.now in
     let x = (moment (g.S.BlobSource.faults c.args.source.now) (g.S.BlobSource.taken c.args.source.now) (g.D.CacheDoor.frame_faults c.args.door.now) (g.D.CacheDoor.seen_gone c.args.door.now) (g.D.CacheDoor.unmounted c.args.door.now) (g.D.CacheDoor.work c.args.door.now) (g.D.CacheDoor.state c.args.door.now)) in
     let y = (moment (g.S.BlobSource.faults c.args.source.now) (g.S.BlobSource.taken c.args.source.now) (g.D.CacheDoor.frame_faults c.enter.new.self) (g.D.CacheDoor.seen_gone c.enter.new.self) (g.D.CacheDoor.unmounted c.enter.new.self) (g.D.CacheDoor.work c.enter.new.self) (g.D.CacheDoor.state c.enter.new.self)) in
@@ -86,9 +87,9 @@ returns-in-Ok-true-clause-exact g c =
     })
     c.read_entered.ensures.part.goes.faults c.read_entered.ensures.part.goes.frame_faults (rw act at c.in-Ok-true.ensures.exact)
 
-pub returns-in-Ok-false-clause-exact : goal.returns-in-Ok-false-clause-exact
-returns-in-Ok-false-clause-exact g c =
-    let l = line g.A.Archive.tells g.A.Archive.blobs c.args.table.now c.args.setting.now in
+pub returns-in-Ok-false-clause-outcome : goal.returns-in-Ok-false-clause-outcome
+returns-in-Ok-false-clause-outcome g c =
+    let l = read_setting g.A.Archive.tells g.A.Archive.blobs c.args.table.now c.args.setting.now in
     let a = g.D.CacheDoor.actor c.args.door.now in
     let x = (moment (g.S.BlobSource.faults c.args.source.now) (g.S.BlobSource.taken c.args.source.now) (g.D.CacheDoor.frame_faults c.args.door.now) (g.D.CacheDoor.seen_gone c.args.door.now) (g.D.CacheDoor.unmounted c.args.door.now) (g.D.CacheDoor.work c.args.door.now) (g.D.CacheDoor.state c.args.door.now)) in
     let y = (moment (g.S.BlobSource.faults c.args.source.now) (g.S.BlobSource.taken c.args.source.now) (g.D.CacheDoor.frame_faults c.enter.new.self) (g.D.CacheDoor.seen_gone c.enter.new.self) (g.D.CacheDoor.unmounted c.enter.new.self) (g.D.CacheDoor.work c.enter.new.self) (g.D.CacheDoor.state c.enter.new.self)) in
@@ -107,9 +108,9 @@ returns-in-Ok-false-clause-exact g c =
     })
     c.read_entered.ensures.part.goes.faults c.read_entered.ensures.part.goes.frame_faults (rw act at c.in-Ok-false.ensures.exact)
 
-pub returns-in-Err-read_entered-clause-exact : goal.returns-in-Err-read_entered-clause-exact
-returns-in-Err-read_entered-clause-exact g c =
-    let l = line g.A.Archive.tells g.A.Archive.blobs c.args.table.now c.args.setting.now in
+pub returns-in-Err-read_entered-clause-outcome : goal.returns-in-Err-read_entered-clause-outcome
+returns-in-Err-read_entered-clause-outcome g c =
+    let l = read_setting g.A.Archive.tells g.A.Archive.blobs c.args.table.now c.args.setting.now in
     let a = g.D.CacheDoor.actor c.args.door.now in
     let x = (moment (g.S.BlobSource.faults c.args.source.now) (g.S.BlobSource.taken c.args.source.now) (g.D.CacheDoor.frame_faults c.args.door.now) (g.D.CacheDoor.seen_gone c.args.door.now) (g.D.CacheDoor.unmounted c.args.door.now) (g.D.CacheDoor.work c.args.door.now) (g.D.CacheDoor.state c.args.door.now)) in
     let y = (moment (g.S.BlobSource.faults c.args.source.now) (g.S.BlobSource.taken c.args.source.now) (g.D.CacheDoor.frame_faults c.enter.new.self) (g.D.CacheDoor.seen_gone c.enter.new.self) (g.D.CacheDoor.unmounted c.enter.new.self) (g.D.CacheDoor.work c.enter.new.self) (g.D.CacheDoor.state c.enter.new.self)) in
@@ -128,9 +129,9 @@ returns-in-Err-read_entered-clause-exact g c =
     })
     c.read_entered.ensures.part.goes.faults c.read_entered.ensures.part.goes.frame_faults (rw act at c.in-Err-read_entered.ensures.exact)
 
-pub returns-in-Ok-NoRoom-clause-exact : goal.returns-in-Ok-NoRoom-clause-exact
-returns-in-Ok-NoRoom-clause-exact g c =
-    let l = line g.A.Archive.tells g.A.Archive.blobs c.args.table.now c.args.setting.now in
+pub returns-in-Ok-NoRoom-clause-outcome : goal.returns-in-Ok-NoRoom-clause-outcome
+returns-in-Ok-NoRoom-clause-outcome g c =
+    let l = read_setting g.A.Archive.tells g.A.Archive.blobs c.args.table.now c.args.setting.now in
     let a = g.D.CacheDoor.actor c.args.door.now in
     let x = (moment (g.S.BlobSource.faults c.args.source.now) (g.S.BlobSource.taken c.args.source.now) (g.D.CacheDoor.frame_faults c.args.door.now) (g.D.CacheDoor.seen_gone c.args.door.now) (g.D.CacheDoor.unmounted c.args.door.now) (g.D.CacheDoor.work c.args.door.now) (g.D.CacheDoor.state c.args.door.now)) in
     let y = (moment (g.S.BlobSource.faults c.args.source.now) (g.S.BlobSource.taken c.args.source.now) (g.D.CacheDoor.frame_faults c.enter.new.self) (g.D.CacheDoor.seen_gone c.enter.new.self) (g.D.CacheDoor.unmounted c.enter.new.self) (g.D.CacheDoor.work c.enter.new.self) (g.D.CacheDoor.state c.enter.new.self)) in
@@ -148,9 +149,9 @@ returns-in-Ok-NoRoom-clause-exact g c =
     })
     refl c.direct.ensures.cause c.direct.ensures.present (rw c.requires.len at c.direct.ensures.report) (λ told. rw c.requires.len at (c.direct.ensures.taken told))
 
-pub returns-in-Ok-Gone-clause-exact : goal.returns-in-Ok-Gone-clause-exact
-returns-in-Ok-Gone-clause-exact g c =
-    let l = line g.A.Archive.tells g.A.Archive.blobs c.args.table.now c.args.setting.now in
+pub returns-in-Ok-Gone-clause-outcome : goal.returns-in-Ok-Gone-clause-outcome
+returns-in-Ok-Gone-clause-outcome g c =
+    let l = read_setting g.A.Archive.tells g.A.Archive.blobs c.args.table.now c.args.setting.now in
     let a = g.D.CacheDoor.actor c.args.door.now in
     let x = (moment (g.S.BlobSource.faults c.args.source.now) (g.S.BlobSource.taken c.args.source.now) (g.D.CacheDoor.frame_faults c.args.door.now) (g.D.CacheDoor.seen_gone c.args.door.now) (g.D.CacheDoor.unmounted c.args.door.now) (g.D.CacheDoor.work c.args.door.now) (g.D.CacheDoor.state c.args.door.now)) in
     let y = (moment (g.S.BlobSource.faults c.args.source.now) (g.S.BlobSource.taken c.args.source.now) (g.D.CacheDoor.frame_faults c.enter.new.self) (g.D.CacheDoor.seen_gone c.enter.new.self) (g.D.CacheDoor.unmounted c.enter.new.self) (g.D.CacheDoor.work c.enter.new.self) (g.D.CacheDoor.state c.enter.new.self)) in
@@ -166,8 +167,8 @@ returns-in-Ok-Gone-clause-exact g c =
       frame_faults = c.enter.ensures.faults;
     })
 
-pub returns-in-Err-clause-exact : goal.returns-in-Err-clause-exact
-returns-in-Err-clause-exact g c told unlacked calm still some s is one = absurd (cc)
+pub returns-in-Err-clause-outcome : goal.returns-in-Err-clause-outcome
+returns-in-Err-clause-outcome g c told enough calm still s is one = absurd (cc)
 
 pub returns-in-Ok-true-clause-fits : goal.returns-in-Ok-true-clause-fits
 returns-in-Ok-true-clause-fits g c =
