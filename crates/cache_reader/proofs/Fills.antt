@@ -49,28 +49,28 @@ pub filling_none : (c : ReadSetting) (file base at : ℕ) (r : Report) (x : Mome
 filling_none c file base at r x = let e : 0 ≡ at - at = omega arith in record {
   goes = goes_as c 0 (at - at) x x e (goes_none c x);
   report = counted_as r r 0 (at - at) e (counted_none r);
-  took = λ told. subst (λ k. Took x.taken x.taken (slice_of (parts.places_of c file) (base + at) k)) e (took_none x.taken);
+  took = λ told. subst (λ k. Took x.source.reads x.source.reads (slice_of (parts.places_of c file) (base + at) k)) e (took_none x.source.reads);
 }
 
 pub filling_more : (c : ReadSetting) (file base from at n : ℕ) (q r s : Report) (x y z : Moment) → from ≤ at
     → Filling c file base from at q r x y → Goes c (fetched_bytes n) y z → Counted r s (fetched_bytes n)
-    → (IsTrue c.tells → Took y.taken z.taken (slice_of (parts.places_of c file) (base + at) n)) → Filling c file base from (at + n) q s x z
+    → (IsTrue c.tells → Took y.source.reads z.source.reads (slice_of (parts.places_of c file) (base + at) n)) → Filling c file base from (at + n) q s x z
 filling_more c file base from at n q r s x y z le h goes count took =
     let e : at - from + n ≡ at + n - from = omega (arith, le) in
     let place : base + from + (at - from) ≡ base + at = omega (arith, le) in record {
       goes = goes_as c (at - from + n) (at + n - from) x z e (goes_more c (fetched_bytes (at - from)) (fetched_bytes n) x y z h.goes goes);
       report = counted_as q s (at - from + n) (at + n - from) e (counted_more q r s (fetched_bytes (at - from)) (fetched_bytes n) h.report count);
       took = λ told.
-          let both = took_both x.taken y.taken z.taken (slice_of (parts.places_of c file) (base + from) (at - from)) (slice_of (parts.places_of c file) (base + at) n) (h.took told) (took told) in
+          let both = took_both x.source.reads y.source.reads z.source.reads (slice_of (parts.places_of c file) (base + from) (at - from)) (slice_of (parts.places_of c file) (base + at) n) (h.took told) (took told) in
           let glue : slice_of (parts.places_of c file) (base + from) (at - from) ++ slice_of (parts.places_of c file) (base + at) n ≡ slice_of (parts.places_of c file) (base + from) (at + n - from) =
           ap (λ k. slice_of (parts.places_of c file) (base + from) (at - from) ++ slice_of (parts.places_of c file) k n) (sym place)
           ∙ slice_joined (parts.places_of c file) (base + from) (at - from) n ∙ ap (slice_of (parts.places_of c file) (base + from)) e in
-          subst (λ ps. Took x.taken z.taken ps) glue both;
+          subst (λ ps. Took x.source.reads z.source.reads ps) glue both;
     }
 
 -- what a piece took that may have been refused
 abbrev pub PieceTook : ReadSetting → ℕ → ℕ → ℕ → Moment → Moment → Type 0
-PieceTook c file place n x y = (ps : List (ℕ × ℕ)) × Took x.taken y.taken ps × (length ps ≤ n)
+PieceTook c file place n x y = (ps : List (ℕ × ℕ)) × Took x.source.reads y.source.reads ps × (length ps ≤ n)
 
 pub piece_all : (t u : Option (List (ℕ × ℕ × ℕ))) (xs : List (ℕ × ℕ)) (at n : ℕ) → Took t u (slice_of xs at n) → (ps : List (ℕ × ℕ)) × Took t u ps × (length ps ≤ n)
 piece_all t u xs at n h = (slice_of xs at n, h, omega (arith, length-take n (drop at xs)))
@@ -81,7 +81,7 @@ piece_some t u xs at n h = (take h.0 (slice_of xs at n), h.1, omega (arith, leng
 -- a gap whose piece was refused
 pub partly_refused : (c : ReadSetting) (file base from at n end : ℕ) (q r : Report) (x y z w : Moment) → from ≤ at → at + n ≤ end
     → (IsTrue c.tells → base + end ≤ length (parts.places_of c file))
-    → Filling c file base from at q r x y → Goes c (fetched_bytes 0) y z → Goes c no_bytes z w → w.taken ≡ z.taken
+    → Filling c file base from at q r x y → Goes c (fetched_bytes 0) y z → Goes c no_bytes z w → w.source.reads ≡ z.source.reads
     → (IsTrue c.tells → PieceTook c file (base + at) n y z) → Partly c (end - from) q r x w
 partly_refused c file base from at n end q r x y z w le most inside h piece failed same took = let e : at - from + 0 + 0 ≡ at - from = omega arith in record {
   count = at - from;
@@ -92,8 +92,8 @@ partly_refused c file base from at n end q r x y z w le most inside h piece fail
       let more = took told in
       let before = slice_of (parts.places_of c file) (base + from) (at - from) in
       let size : length before ≡ at - from = slice_length (parts.places_of c file) (base + from) (at - from) (omega (arith, inside told, le, most)) in
-      let both : Took x.taken z.taken (before ++ more.0) = took_both x.taken y.taken z.taken before more.0 (h.took told) more.1 in
-      (before ++ more.0, subst (λ t. Took x.taken t (before ++ more.0)) (sym same) both, omega (arith, length-append before more.0, size), omega (arith, length-append before more.0, size, more.2, le, most));
+      let both : Took x.source.reads z.source.reads (before ++ more.0) = took_both x.source.reads y.source.reads z.source.reads before more.0 (h.took told) more.1 in
+      (before ++ more.0, subst (λ t. Took x.source.reads t (before ++ more.0)) (sym same) both, omega (arith, length-append before more.0, size), omega (arith, length-append before more.0, size, more.2, le, most));
 }
 
 -- a gap that was filled

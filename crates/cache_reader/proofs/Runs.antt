@@ -49,15 +49,15 @@ part_base p s = p.start / s.config.region * s.config.region
 -- the gap was taken, counted and stored, and the hold given back
 pub just_held : (c : ReadSetting) (a file : ℕ) (p : ByteRange) (s t : State) (r : ℕ) (gap : Option ByteRange) (q now : Report) (x y : Moment)
     → part_entry c a file p s ≡ (Held r gap, t)
-    → Took x.taken y.taken (slice_of (places_of c file) (part_base p s + range_start gap) (range_end gap - range_start gap))
+    → Took x.source.reads y.source.reads (slice_of (places_of c file) (part_base p s + range_start gap) (range_end gap - range_start gap))
     → Grew q.fetched now.fetched (range_end gap - range_start gap) → Grew q.direct now.direct 0
-    → (let u = gap_stored c a file (part_base p s) gap t in y.state ≡ Some (leave a (hold_at u a) u))
+    → (let u = gap_stored c a file (part_base p s) gap t in y.door.state ≡ Some (leave a (hold_at u a) u))
     → HasOutcome (part_outcome c a file p s) q now x y
 just_held c a file p s t r gap q now x y entry taken fetched direct state =
     let P : Outcome → Type 0 = λ w. HasOutcome w q now x y in
     let v = entry_outcome c a file p (part_base p s) (Held r gap, t) in
     subst P (sym (part_as c a file p s (Held r gap) t entry)) (record {
-      taken = subst (λ ps. Took x.taken y.taken ps) (sym (gap_places (places_of c file) r (part_base p s) gap p)) taken;
+      places = subst (λ ps. Took x.source.reads y.source.reads ps) (sym (gap_places (places_of c file) r (part_base p s) gap p)) taken;
       fetched = subst (λ n. Grew q.fetched now.fetched n) (sym (gap_fetched r gap)) fetched;
       direct = direct;
       state = state ∙ ap Some (sym (after_gap c a file (part_base p s) r gap t));
@@ -66,13 +66,13 @@ just_held c a file p s t r gap q now x y entry taken fetched direct state =
 -- the part was read past the cache
 pub just_direct : (c : ReadSetting) (a file : ℕ) (p : ByteRange) (s t : State) (q now : Report) (x y : Moment)
     → part_entry c a file p s ≡ (NoRoom, t)
-    → Took x.taken y.taken (slice_of (places_of c file) p.start (p.end - p.start))
-    → Grew q.fetched now.fetched 0 → Grew q.direct now.direct (p.end - p.start) → y.state ≡ Some t
+    → Took x.source.reads y.source.reads (slice_of (places_of c file) p.start (p.end - p.start))
+    → Grew q.fetched now.fetched 0 → Grew q.direct now.direct (p.end - p.start) → y.door.state ≡ Some t
     → HasOutcome (part_outcome c a file p s) q now x y
 just_direct c a file p s t q now x y entry taken fetched direct state =
     let P : Outcome → Type 0 = λ w. HasOutcome w q now x y in
     subst P (sym (part_as c a file p s NoRoom t entry)) (record {
-      taken = subst (λ ps. Took x.taken y.taken ps) (sym (spread_range (places_of c file) p)) taken;
+      places = subst (λ ps. Took x.source.reads y.source.reads ps) (sym (spread_range (places_of c file) p)) taken;
       fetched = fetched;
       direct = direct;
       state = state;
@@ -116,7 +116,7 @@ read_to_all c a file range at upto end q r x y e h =
 -- the next part was refused, since the mount is gone
 pub read_to_gone : (c : ReadSetting) (a file range at upto end : ℕ) (p : ByteRange) (out_of_memory : Bool) (m n q r s : Report) (x y z : Moment)
     → 0 < range → upto < end → p.start ≡ upto → p.end ≡ min end (next_cut upto range) → Goes c m x y → Goes c n y z
-    → ((t : State) → z.state ≡ Some t → is_gone t c.mount ≡ true)
+    → ((t : State) → z.door.state ≡ Some t → is_gone t c.mount ≡ true)
     → ByEntries c a (in_file file p ∷ []) out_of_memory r s y z → ReadTo c a file range at upto end q r x y
     → ByEntries c a (map (in_file file) (parts range (cut_at at end))) out_of_memory q s x z
 read_to_gone c a file range at upto end p out_of_memory m n q r s x y z some less starts ends goes more gone entry h =
@@ -128,6 +128,6 @@ read_to_gone c a file range at upto end p out_of_memory m n q r s x y z some les
     (one_more c a file h.done p out_of_memory m n q r s x y z goes more h.entries entry)))
 
 -- the next part was refused otherwise: for want of memory, or since the source's count rose
-pub read_to_refused : (c : ReadSetting) (a : ℕ) (ps : List FilePart) (out_of_memory : Bool) (m q s : Report) (x y z : Moment) → Goes c m x y → (out_of_memory ≡ false → Rose y.faults z.faults)
+pub read_to_refused : (c : ReadSetting) (a : ℕ) (ps : List FilePart) (out_of_memory : Bool) (m q s : Report) (x y z : Moment) → Goes c m x y → (out_of_memory ≡ false → Rose y.source.faults z.source.faults)
     → ByEntries c a ps out_of_memory q s x z
-read_to_refused c a ps out_of_memory m q s x y z goes cause told enough calm still t is one = absurd (calm (rose_then x.faults y.faults z.faults goes.faults (cause enough)))
+read_to_refused c a ps out_of_memory m q s x y z goes cause told enough calm still t is one = absurd (calm (rose_then x.source.faults y.source.faults z.source.faults goes.faults (cause enough)))

@@ -17,7 +17,7 @@ use Rattle.cache_door.specs.declared.hold.Hold.{Hold}
 use Rattle.cache_door.specs.declared.answers.Entered.TheVariants.{Held}
 use Rattle.cache_door.specs.Machine.{State, Cell, cell_at, hold_at, no_cell, with_cell, with_hold, store, store_into, leave}
 use Rattle.cache_door.specs.Good.{Good, weigh_hold, hold_gap}
-use Rattle.cache_door.specs.Doors.{HoldView, hold_view}
+use Rattle.cache_door.specs.Doors.{DoorView, Agrees, HoldView, hold_view}
 use Rattle.cache_door.specs.Takes.{after}
 use Rattle.cache_reader.specs.Parts.{ReadSetting, bytes_of}
 use Rattle.cache_reader.specs.Stored.{rest_stored, gap_stored, StoredTo}
@@ -285,6 +285,10 @@ held_more s a h piece e = record {
 -- what is told of the state where there is one
 pub told_of : (P : State → Type 0) (o : Option State) (s : State) → IfSome o P → o ≡ Some s → P s
 told_of P o s h e = let Q : Option State → Type 0 = λ q. IfSome q P in subst Q e h
+
+-- what is told of a door
+pub at_rest : (tells : Bool) (files : ℕ → ℕ → List ℕ) (d : DoorView) (s : State) → IfSome d.state (Agrees tells files d) → d.state ≡ Some s → Agrees tells files d s
+at_rest tells files d s h e = told_of (Agrees tells files d) d.state s h e
 
 -- what is told of a hold that has an open gap
 hold_of : (o : Option Hold) → (hold_view o).upto < (hold_view o).gap_end → (h : Hold) × (o ≡ Some h)

@@ -27,7 +27,7 @@ unraised true more e = absurd (cc)
 pub exactly_counted : (c : ReadSetting) (w : State → Outcome) (out_of_memory : Bool) (q r s : Report) (x y : Moment) → Counted q s r → Exactly c w out_of_memory no_bytes r x y → Exactly c w out_of_memory q s x y
 exactly_counted c w out_of_memory q r s x y count h some told enough calm still t is one =
     let j = h some told enough calm still t is one in
-    record { taken = j.taken; fetched = grew_through q.fetched s.fetched r.fetched (w t).fetched count.fetched j.fetched; direct = grew_through q.direct s.direct r.direct (w t).direct count.direct j.direct; state = j.state }
+    record { places = j.places; fetched = grew_through q.fetched s.fetched r.fetched (w t).fetched count.fetched j.fetched; direct = grew_through q.direct s.direct r.direct (w t).direct count.direct j.direct; state = j.state }
 
 -- the same under a mark on memory that is not lower
 entries_counted : (c : ReadSetting) (a : ℕ) (ps : List FilePart) (k l : Bool) (q r s : Report) (x y : Moment) → (l ≡ false → k ≡ false) → Counted q s r → ByEntries c a ps k no_bytes r x y → ByEntries c a ps l q s x y
@@ -37,7 +37,7 @@ entries_counted c a ps k l q r s x y marks count h told enough calm still t is o
     let w = outcome_over (entry_for c a) e.entered t in record {
       entered = e.entered;
       are = e.are;
-      outcome = record { taken = j.taken; fetched = grew_through q.fetched s.fetched r.fetched w.fetched count.fetched j.fetched; direct = grew_through q.direct s.direct r.direct w.direct count.direct j.direct; state = j.state };
+      outcome = record { places = j.places; fetched = grew_through q.fetched s.fetched r.fetched w.fetched count.fetched j.fetched; direct = grew_through q.direct s.direct r.direct w.direct count.direct j.direct; state = j.state };
     }
 
 -- one read, which is all parts of it

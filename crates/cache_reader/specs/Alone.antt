@@ -82,17 +82,17 @@ reads_outcome c a reads s = outcome_over (read_outcome c a) reads s
 
 -- what was taken, counted and left is just what `w` says
 pub record HasOutcome (w : Outcome) (report_before report_now : Report) (x y : Moment) : Type 0 where
-  pub taken : Took x.taken y.taken w.places
+  pub places : Took x.source.reads y.source.reads w.places
   pub fetched : Grew report_before.fetched report_now.fetched w.fetched
   pub direct : Grew report_before.direct report_now.direct w.direct
-  pub state : y.state ≡ Some w.state
+  pub state : y.door.state ≡ Some w.state
 
 -- Where the archive tells, no memory was wanted, no count of the source or of a frame rose, and the state is told and has one actor, this holds
 -- of that state.
 abbrev pub InCalm : ReadSetting → Bool → Moment → Moment → (State → Type 0) → Type 0
 InCalm c out_of_memory x y P =
-    IsTrue c.tells → out_of_memory ≡ false → (Rose x.faults y.faults → ⊥) → (Rose x.frame_faults y.frame_faults → ⊥)
-    → (s : State) → x.state ≡ Some s → length s.holds ≡ 1 → P s
+    IsTrue c.tells → out_of_memory ≡ false → (Rose x.source.faults y.source.faults → ⊥) → (Rose x.door.frame_faults y.door.frame_faults → ⊥)
+    → (s : State) → x.door.state ≡ Some s → length s.holds ≡ 1 → P s
 
 -- then `w` tells what became of it
 abbrev pub Calmly : ReadSetting → (State → Outcome) → Bool → Report → Report → Moment → Moment → Type 0
@@ -169,10 +169,10 @@ SamePolicy (Some s) None = ⊥
 -- What a hold, whose region's first byte is byte `base` of the file and whose gap is this, makes of a state: the gap was taken, counted and
 -- stored, and the hold given back.
 pub record HasHeldOutcome (c : ReadSetting) (a file base : ℕ) (gap : Option ByteRange) (s : State) (report_before report_now : Report) (x y : Moment) : Type 0 where
-  pub taken : Took x.taken y.taken (slice_of (places_of c file) (base + range_start gap) (range_end gap - range_start gap))
+  pub places : Took x.source.reads y.source.reads (slice_of (places_of c file) (base + range_start gap) (range_end gap - range_start gap))
   pub fetched : Grew report_before.fetched report_now.fetched (range_end gap - range_start gap)
   pub direct : Grew report_before.direct report_now.direct 0
-  pub state : let t = gap_stored c a file base gap s in y.state ≡ Some (leave a (hold_at t a) t)
+  pub state : let t = gap_stored c a file base gap s in y.door.state ≡ Some (leave a (hold_at t a) t)
 
 -- this in calm, where the hold did not fail
 abbrev pub HeldExactly : ReadSetting → ℕ → ℕ → ℕ → Option ByteRange → Bool → Report → Report → Moment → Moment → Type 0

@@ -23,7 +23,7 @@ piece_hold n (Err e) t = t
 pub record Filling (c : ReadSetting) (file base from at : ℕ) (report_before report_now : Report) (x y : Moment) : Type 0 where
   pub goes : Goes c (fetched_bytes (at - from)) x y
   pub report : Counted report_before report_now (fetched_bytes (at - from))
-  pub took : IsTrue c.tells → Took x.taken y.taken (slice_of (places_of c file) (base + from) (at - from))
+  pub took : IsTrue c.tells → Took x.source.reads y.source.reads (slice_of (places_of c file) (base + from) (at - from))
 
 -- Some bytes of a gap of so many were fetched and stored. They were taken, and where that was not all at most a piece more; a frame
 -- refused a piece only where its count rose.
@@ -32,13 +32,13 @@ pub record Partly (c : ReadSetting) (gap : ℕ) (report_before report_now : Repo
   pub most : count ≤ gap
   pub goes : Goes c (fetched_bytes count) x y
   pub report : Counted report_before report_now (fetched_bytes count)
-  pub took : IsTrue c.tells → (places : List (ℕ × ℕ)) × Took x.taken y.taken places × (count ≤ length places) × (length places ≤ gap)
+  pub took : IsTrue c.tells → (places : List (ℕ × ℕ)) × Took x.source.reads y.source.reads places × (count ≤ length places) × (length places ≤ gap)
 
 -- a gap of so many bytes was fetched and stored
 pub record Whole (c : ReadSetting) (size : ℕ) (report_before report_now : Report) (x y : Moment) : Type 0 where
   pub goes : Goes c (fetched_bytes size) x y
   pub report : Counted report_before report_now (fetched_bytes size)
-  pub took : IsTrue c.tells → (places : List (ℕ × ℕ)) × Took x.taken y.taken places × (length places ≡ size)
+  pub took : IsTrue c.tells → (places : List (ℕ × ℕ)) × Took x.source.reads y.source.reads places × (length places ≡ size)
 
 -- the hold stays, but for its gap
 pub record SameHold (a b : HoldView) : Type 0 where

@@ -1,20 +1,22 @@
 -- Reads behind reads.
-use Rattle.std.proofs.Common.{arith, ◌≡◌, ◌≤◌, ◌+◌, ℕ, List, [], ◌∷◌, ◌++◌, Bool, refl, sym, subst, ◌∙◌}
-use Rattle.std.specs.Prelude.{IsTrue}
+use Rattle.std.proofs.Common.{arith, ◌≡◌, ◌≤◌, ◌+◌, ℕ, List, [], ◌∷◌, ◌++◌, Bool, length, ap, refl, sym, subst, ◌∙◌}
+use Rattle.std.specs.Prelude.{IsTrue, ◌&&◌}
 use Rattle.std.proofs.lemmas.Grind.{flat_map-append}
 use Rattle.std.proofs.lemmas.List.Sums.{sum_by-append}
 use Rattle.directory_input.specs.Reads.{Read}
 use Rattle.cache_outside.specs.Listing.{Listing}
-use Rattle.blob_parts.specs.Tables.{TableParts}
+use Rattle.blob_parts.specs.Tables.{TableParts, file_length}
 use Rattle.blob_parts.specs.Going.{AreInTable}
-use Rattle.cache_door.specs.Doors.{Grown}
+use Rattle.cache_door.specs.Doors.{DoorLater}
+use Rattle.directory_input.specs.Files.{FilesLater}
+use Rattle.blob_parts.specs.Content.{content}
 use Rattle.cache_reader.specs.declared.part.Setting.{Setting}
 use Rattle.cache_reader.specs.declared.report.Report.{Report}
 use Rattle.cache_reader.specs.Reports.{joined, no_bytes}
 use Rattle.cache_reader.specs.Parts.{ReadSetting, read_setting}
 use Rattle.cache_reader.specs.Going.{Moment}
 use Rattle.cache_reader.specs.Alone.{reads_parts, parts_of, ByEntries}
-use Rattle.cache_reader.specs.Reader.{ReadsThrough}
+use Rattle.cache_reader.specs.Reader.{ReadsThrough, files_seen}
 use Rattle.cache_reader.specs.Through.{counted_none, counted_more, goes_none, goes_more, takes_none, takes_more, unmarked}
 use Rattle.cache_reader.specs.Runs.{exactly_none, exactly_more, entries_none, entries_more}
 
@@ -62,6 +64,15 @@ more_of_same c d a b rs ss q r s u v w x y z same actor h k =
 pub same_setting : (tells : Bool) (blobs : Listing) (table other : TableParts) (own next : Setting) → other ≡ table → next ≡ own → read_setting tells blobs other next ≡ read_setting tells blobs table own
 same_setting tells blobs table other own next same kept = ap (λ t. read_setting tells blobs t next) same ∙ ap (λ k. read_setting tells blobs table k) kept
 
--- what was seen gone of a mount stays so
-pub gone_kept : (own next : Setting) (p q : ℕ → Bool) → next ≡ own → Grown p q → IsTrue (p own.mount) → IsTrue (q next.mount)
-gone_kept own next p q same grown seen = subst (λ (s : Setting). IsTrue (q s.mount)) (sym same) (grown own.mount seen)
+-- reads change no files, and lower no count or mark
+pub files_kept : (c d : ReadSetting) (a : ℕ) (rs : List Read) (q r : Report) (v w : Bool) (x y : Moment) → d ≡ c → DoorLater x.door y.door → ReadsThrough c a rs q r v w x y → FilesLater (files_seen c x v) (files_seen d y w)
+files_kept c d a rs q r v w x y same door h = record {
+  count = ap (λ (k : ReadSetting). length k.table.files) same;
+  lengths = ap (λ (k : ReadSetting). file_length k.table) same;
+  tells = ap (λ (k : ReadSetting). k.tells && y.door.frames_tell) same ∙ ap (λ b. c.tells && b) door.frames_tell;
+  bytes = ap (λ (k : ReadSetting). content k.blobs k.table.number) same;
+  mount = ap (λ (k : ReadSetting). k.mount) same;
+  faults = h.goes.faults;
+  gone = λ seen. subst (λ (k : ReadSetting). IsTrue (y.door.seen_gone k.mount)) (sym same) (h.goes.seen c.mount seen);
+  memory = h.marked;
+}

@@ -203,26 +203,26 @@ gone_reads c a (r ∷ rs) s h =
 
 pub just_more : (w v : Outcome) (q r s : Report) (x y z : Moment) → HasOutcome w q r x y → HasOutcome v r s y z → HasOutcome (then_outcome w v) q s x z
 just_more w v q r s x y z h k = record {
-  taken = took_both x.taken y.taken z.taken w.places v.places h.taken k.taken;
+  places = took_both x.source.reads y.source.reads z.source.reads w.places v.places h.places k.places;
   fetched = grew_more q.fetched r.fetched s.fetched w.fetched v.fetched h.fetched k.fetched;
   direct = grew_more q.direct r.direct s.direct w.direct v.direct h.direct k.direct;
   state = k.state;
 }
 
-pub just_unchanged : (s : State) (r : Report) (x y : Moment) → x.state ≡ Some s → y.taken ≡ x.taken → y.state ≡ x.state → HasOutcome (unchanged s) r r x y
+pub just_unchanged : (s : State) (r : Report) (x y : Moment) → x.door.state ≡ Some s → y.source.reads ≡ x.source.reads → y.door.state ≡ x.door.state → HasOutcome (unchanged s) r r x y
 just_unchanged s r x y is same kept = record {
-  taken = subst (λ t. Took x.taken t []) (sym same) (took_none x.taken);
+  places = subst (λ t. Took x.source.reads t []) (sym same) (took_none x.source.reads);
   fetched = grew_none r.fetched;
   direct = grew_none r.direct;
   state = kept ∙ is;
 }
 
 -- nothing was done, and nothing taken
-pub calmly_unchanged : (c : ReadSetting) (out_of_memory : Bool) (r : Report) (x y : Moment) → y.taken ≡ x.taken → y.state ≡ x.state → Calmly c unchanged out_of_memory r r x y
+pub calmly_unchanged : (c : ReadSetting) (out_of_memory : Bool) (r : Report) (x y : Moment) → y.source.reads ≡ x.source.reads → y.door.state ≡ x.door.state → Calmly c unchanged out_of_memory r r x y
 calmly_unchanged c out_of_memory r x y same kept told enough calm still s is one = just_unchanged s r x y is same kept
 
 -- the same by another name
-pub calmly_as : (c : ReadSetting) (w v : State → Outcome) (out_of_memory : Bool) (q r : Report) (x y : Moment) → ((s : State) → x.state ≡ Some s → w s ≡ v s) → Calmly c w out_of_memory q r x y → Calmly c v out_of_memory q r x y
+pub calmly_as : (c : ReadSetting) (w v : State → Outcome) (out_of_memory : Bool) (q r : Report) (x y : Moment) → ((s : State) → x.door.state ≡ Some s → w s ≡ v s) → Calmly c w out_of_memory q r x y → Calmly c v out_of_memory q r x y
 calmly_as c w v out_of_memory q r x y same h told enough calm still s is one = let P : Outcome → Type 0 = λ u. HasOutcome u q r x y in subst P (same s is) (h told enough calm still s is one)
 
 -- want of memory, and a count that rose
@@ -231,11 +231,11 @@ calmly_lacked c w q r x y told enough calm still s is one = absurd (cc)
 
 -- `w` and then `v`: each with its own mark on memory, which both are false where that of both is
 pub calmly_more : (c : ReadSetting) (w v : State → Outcome) (k l j : Bool) (m n : Report) (q r s : Report) (x y z : Moment)
-    → (j ≡ false → k ≡ false) → (j ≡ false → l ≡ false) → ((t : State) → x.state ≡ Some t → length t.holds ≡ 1 → length (w t).state.holds ≡ 1)
+    → (j ≡ false → k ≡ false) → (j ≡ false → l ≡ false) → ((t : State) → x.door.state ≡ Some t → length t.holds ≡ 1 → length (w t).state.holds ≡ 1)
     → Goes c m x y → Goes c n y z → Calmly c w k q r x y → Calmly c v l r s y z → Calmly c (λ t. then_outcome (w t) (v (w t).state)) j q s x z
 calmly_more c w v k l j m n q r s x y z first second actors goes more h g told enough calm still t is one =
-    let front = h told (first enough) (λ e. calm (rose_first x.faults y.faults z.faults more.faults e)) (λ e. still (rose_first x.frame_faults y.frame_faults z.frame_faults more.frame_faults e)) t is one in
-    let back = g told (second enough) (λ e. calm (rose_then x.faults y.faults z.faults goes.faults e)) (λ e. still (rose_then x.frame_faults y.frame_faults z.frame_faults goes.frame_faults e)) (w t).state front.state (actors t is one) in
+    let front = h told (first enough) (λ e. calm (rose_first x.source.faults y.source.faults z.source.faults more.faults e)) (λ e. still (rose_first x.door.frame_faults y.door.frame_faults z.door.frame_faults more.frame_faults e)) t is one in
+    let back = g told (second enough) (λ e. calm (rose_then x.source.faults y.source.faults z.source.faults goes.faults e)) (λ e. still (rose_then x.door.frame_faults y.door.frame_faults z.door.frame_faults goes.frame_faults e)) (w t).state front.state (actors t is one) in
     just_more (w t) (v (w t).state) q r s x y z front back
 
 -- behind some reads the next ones
@@ -283,9 +283,9 @@ pub entries_more : (c : ReadSetting) (a : ℕ) (ps qs : List FilePart) (k l j : 
     → (j ≡ false → k ≡ false) → (j ≡ false → l ≡ false) → Goes c m x y → Goes c n y z → ByEntries c a ps k q r x y → ByEntries c a qs l r s y z → ByEntries c a (ps ++ qs) j q s x z
 entries_more c a ps qs k l j m n q r s x y z first second goes more h g told enough calm still t is one =
     let go = entry_for c a in
-    let front = h told (first enough) (λ e. calm (rose_first x.faults y.faults z.faults more.faults e)) (λ e. still (rose_first x.frame_faults y.frame_faults z.frame_faults more.frame_faults e)) t is one in
+    let front = h told (first enough) (λ e. calm (rose_first x.source.faults y.source.faults z.source.faults more.faults e)) (λ e. still (rose_first x.door.frame_faults y.door.frame_faults z.door.frame_faults more.frame_faults e)) t is one in
     let w = outcome_over go front.entered t in
-    let back = g told (second enough) (λ e. calm (rose_then x.faults y.faults z.faults goes.faults e)) (λ e. still (rose_then x.frame_faults y.frame_faults z.frame_faults goes.frame_faults e))
+    let back = g told (second enough) (λ e. calm (rose_then x.source.faults y.source.faults z.source.faults goes.faults e)) (λ e. still (rose_then x.door.frame_faults y.door.frame_faults z.door.frame_faults goes.frame_faults e))
     w.state front.outcome.state ((stays_entries c a front.entered t).actors ∙ one) in
     let P : Outcome → Type 0 = λ u. HasOutcome u q s x z in record {
       entered = front.entered ++ back.entered;
@@ -313,7 +313,7 @@ gone_entries c a (p ∷ ps) s h =
     ∙ unchanged_then s (outcome_over (entry_for c a) ps s)
     ∙ gone_entries c a ps s h
 
-pub entries_gone : (c : ReadSetting) (a : ℕ) (ps qs : List FilePart) (out_of_memory : Bool) (q r : Report) (x y : Moment) → ((t : State) → y.state ≡ Some t → is_gone t c.mount ≡ true)
+pub entries_gone : (c : ReadSetting) (a : ℕ) (ps qs : List FilePart) (out_of_memory : Bool) (q r : Report) (x y : Moment) → ((t : State) → y.door.state ≡ Some t → is_gone t c.mount ≡ true)
     → ByEntries c a ps out_of_memory q r x y → ByEntries c a (ps ++ qs) out_of_memory q r x y
 entries_gone c a ps qs out_of_memory q r x y gone h told enough calm still s is one =
     let go = entry_for c a in
@@ -346,7 +346,7 @@ over_map c a file [] s = refl
 over_map c a file (p ∷ ps) s = ap (then_outcome (part_outcome c a file p s)) (over_map c a file ps (part_outcome c a file p s).state)
 
 -- a read's entries come to just what the read does
-pub exactly_entries : (c : ReadSetting) (a : ℕ) (r : Read) (out_of_memory : Bool) (p q : Report) (x y : Moment) → ((s : State) → x.state ≡ Some s → s.config ≡ c.config)
+pub exactly_entries : (c : ReadSetting) (a : ℕ) (r : Read) (out_of_memory : Bool) (p q : Report) (x y : Moment) → ((s : State) → x.door.state ≡ Some s → s.config ≡ c.config)
     → ByEntries c a (parts_of c.config.range r) out_of_memory p q x y → Exactly c (read_outcome c a r) out_of_memory p q x y
 exactly_entries c a r out_of_memory p q x y own h some told enough calm still s is one =
     let e = h told enough calm still s is one in

@@ -54,15 +54,16 @@ worked_more m n a b d h k = record {
 }
 
 pub goes_none : (c : ReadSetting) (x : Moment) → Goes c no_bytes x x
-goes_none c x = record { faults = le_refl x.faults; frame_faults = le_refl x.frame_faults; seen = λ m h. h; unmounted = refl; work = worked_none x.work }
+goes_none c x = record { identity = refl; faults = le_refl x.source.faults; frame_faults = le_refl x.door.frame_faults; seen = λ m h. h; unmounted = refl; work = worked_none x.door.work }
 
 pub goes_more : (c : ReadSetting) (m n : Report) (x y z : Moment) → Goes c m x y → Goes c n y z → Goes c (joined m n) x z
 goes_more c m n x y z h k = record {
+  identity = k.identity ∙ h.identity;
   faults = le_trans h.faults k.faults;
   frame_faults = le_trans h.frame_faults k.frame_faults;
   seen = λ a g. k.seen a (h.seen a g);
   unmounted = k.unmounted ∙ h.unmounted;
-  work = worked_more m n x.work y.work z.work h.work k.work;
+  work = worked_more m n x.door.work y.door.work z.door.work h.work k.work;
 }
 
 pub counted_none : (a : Report) → Counted a a no_bytes
@@ -100,15 +101,15 @@ bounded_more range a b d m n up on h k s t =
     (omega (arith, first.0, second.0), omega (arith, first.1, second.1))
 
 pub takes_none : (c : ReadSetting) (out_of_memory : Bool) (x : Moment) → Takes c out_of_memory x x
-takes_none c out_of_memory x = record { places = []; took = took_none x.taken; bound = λ a b. bounded_none c.config.range x.work }
+takes_none c out_of_memory x = record { places = []; took = took_none x.source.reads; bound = λ a b. bounded_none c.config.range x.door.work }
 
 pub takes_more : (c : ReadSetting) (k l : Bool) (m n : Report) (x y z : Moment) → (l ≡ false → k ≡ false) → Goes c m x y → Goes c n y z → Takes c k x y → Takes c l y z → Takes c l x z
 takes_more c k l m n x y z marks first second h j = record {
   places = h.places ++ j.places;
-  took = took_both x.taken y.taken z.taken h.places j.places h.took j.took;
-  bound = λ enough calm. rw (length-append h.places j.places) (bounded_more c.config.range x.work y.work z.work (length h.places) (length j.places) second.work.stored.later second.work.turned
-      (h.bound (marks enough) (λ r. calm (rose_first x.faults y.faults z.faults second.faults r)))
-      (j.bound enough (λ r. calm (rose_then x.faults y.faults z.faults first.faults r))));
+  took = took_both x.source.reads y.source.reads z.source.reads h.places j.places h.took j.took;
+  bound = λ enough calm. rw (length-append h.places j.places) (bounded_more c.config.range x.door.work y.door.work z.door.work (length h.places) (length j.places) second.work.stored.later second.work.turned
+      (h.bound (marks enough) (λ r. calm (rose_first x.source.faults y.source.faults z.source.faults second.faults r)))
+      (j.bound enough (λ r. calm (rose_then x.source.faults y.source.faults z.source.faults first.faults r))));
 }
 
 pub unmarked : (first then : Bool) → (IsTrue first → IsTrue then) → then ≡ false → first ≡ false

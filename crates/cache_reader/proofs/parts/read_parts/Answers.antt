@@ -5,11 +5,11 @@ use Rattle.blob_parts.specs.Content.{content, slice_of}
 use Rattle.cache_reader.proofs.Answered.{caused_later}
 use Rattle.cache_reader.proofs.Together.{grown, parts_none, parts_more, counted_few, stopped, deeper, untouched_behind, filled_before}
 use Rattle.region_ranges.specs.declared.keys.Config.{Config}
-use Rattle.cache_door.specs.Doors.{Agrees}
 use Rattle.cache_reader.specs.Parts.{read_setting}
 use Rattle.cache_reader.specs.Going.{moment}
+use Rattle.cache_reader.specs.Reader.{files_seen}
 use Rattle.cache_reader.proofs.Runs.{ReadTo, read_to_all, read_to_more, read_to_none}
-use Rattle.cache_reader.proofs.Stores.{told_of}
+use Rattle.cache_reader.proofs.Stores.{at_rest}
 use Rattle.cache_reader.proofs.Entries.{entries_refused}
 use Rattle.cache_reader.proofs.Entering.{short_part}
 use Rattle.cache_reader.specs.Runs.{exactly_entries}
@@ -24,14 +24,13 @@ loop-done-init g c = record {
   stays = g.met.D.CacheDoor.stays_same _;
   hold = c.requires.free;
   reach = c.requires.reach;
-  same = refl;
   bytes = λ told frames. refl;
   fits = c.requires.fits;
   entries =
       let l = read_setting g.A.Archive.tells g.A.Archive.blobs c.args.table.now c.args.setting.now in
-      let a = g.D.CacheDoor.actor c.args.door.now in
+      let a = (g.D.CacheDoor.view c.args.door.now).actor in
       let end = c.args.at + length c.args.out.now in
-      let x = (moment (g.S.BlobSource.faults c.args.source.now) (g.S.BlobSource.taken c.args.source.now) (g.D.CacheDoor.frame_faults c.args.door.now) (g.D.CacheDoor.seen_gone c.args.door.now) (g.D.CacheDoor.unmounted c.args.door.now) (g.D.CacheDoor.work c.args.door.now) (g.D.CacheDoor.state c.args.door.now)) in
+      let x = (moment (g.S.BlobSource.view c.args.source.now) (g.D.CacheDoor.view c.args.door.now)) in
       let none : c.args.at ≡ c.args.at + 0 = omega arith in
       subst (λ n. ReadTo l a c.args.file c.args.setting.now.config.range c.args.at n end c.args.report.now c.args.report.now x x) none (read_to_none l a c.args.file c.args.setting.now.config.range c.args.at end c.args.report.now x);
   part = parts_none _ _ _;
@@ -52,21 +51,20 @@ loop-done-preserved g c =
       stays = g.met.D.CacheDoor.stays_on _ _ _ c.loop-done.invariant.stays c.read_part.ensures.stays;
       hold = c.read_part.ensures.hold;
       reach = c.read_part.ensures.reach;
-      same = c.read_part.ensures.same ∙ c.loop-done.invariant.same;
       bytes = λ told frames.
           let bytes = content g.A.Archive.blobs c.args.table.now.number c.args.file in
           grown c.loop-done.out c.read_part.new.out bytes c.loop-done.done (c.loop-done.done + n) n c.args.at _ (omega arith) new refl (c.loop-done.invariant.bytes told frames)
-          (c.in-Ok.ensures.bytes told (g.met.D.CacheDoor.same_tell _ _ c.loop-done.invariant.stays ∙ frames) ∙ ap (slice_of bytes c.part_from-part.result.start) size ∙ ap (λ k. slice_of bytes k n) c.part_from-part.ensures.start);
+          (c.in-Ok.ensures.bytes told ((g.met.D.CacheDoor.later _ _ c.loop-done.invariant.stays).frames_tell ∙ frames) ∙ ap (slice_of bytes c.part_from-part.result.start) size ∙ ap (λ k. slice_of bytes k n) c.part_from-part.ensures.start);
       fits = c.read_part.ensures.fits;
       entries =
           let l = read_setting g.A.Archive.tells g.A.Archive.blobs c.args.table.now c.args.setting.now in
-          let a = g.D.CacheDoor.actor c.args.door.now in
+          let a = (g.D.CacheDoor.view c.args.door.now).actor in
           let range = c.args.setting.now.config.range in
           let end = c.args.at + length c.args.out.now in
-          let x = (moment (g.S.BlobSource.faults c.args.source.now) (g.S.BlobSource.taken c.args.source.now) (g.D.CacheDoor.frame_faults c.args.door.now) (g.D.CacheDoor.seen_gone c.args.door.now) (g.D.CacheDoor.unmounted c.args.door.now) (g.D.CacheDoor.work c.args.door.now) (g.D.CacheDoor.state c.args.door.now)) in
-          let y = (moment (g.S.BlobSource.faults c.loop-done.source) (g.S.BlobSource.taken c.loop-done.source) (g.D.CacheDoor.frame_faults c.loop-done.door) (g.D.CacheDoor.seen_gone c.loop-done.door) (g.D.CacheDoor.unmounted c.loop-done.door) (g.D.CacheDoor.work c.loop-done.door) (g.D.CacheDoor.state c.loop-done.door)) in
-          let z = (moment (g.S.BlobSource.faults c.read_part.new.source) (g.S.BlobSource.taken c.read_part.new.source) (g.D.CacheDoor.frame_faults c.read_part.new.door) (g.D.CacheDoor.seen_gone c.read_part.new.door) (g.D.CacheDoor.unmounted c.read_part.new.door) (g.D.CacheDoor.work c.read_part.new.door) (g.D.CacheDoor.state c.read_part.new.door)) in
-          let act : g.D.CacheDoor.actor c.loop-done.door ≡ a = g.met.D.CacheDoor.same_actor _ _ c.loop-done.invariant.stays in
+          let x = (moment (g.S.BlobSource.view c.args.source.now) (g.D.CacheDoor.view c.args.door.now)) in
+          let y = (moment (g.S.BlobSource.view c.loop-done.source) (g.D.CacheDoor.view c.loop-done.door)) in
+          let z = (moment (g.S.BlobSource.view c.read_part.new.source) (g.D.CacheDoor.view c.read_part.new.door)) in
+          let act : (g.D.CacheDoor.view c.loop-done.door).actor ≡ a = (g.met.D.CacheDoor.later _ _ c.loop-done.invariant.stays).actor in
           let place : c.part_from-part.result.end ≡ c.args.at + (c.loop-done.done + n) = omega (arith, c.part_from-part.ensures.start, c.part_from-part.ensures.one.0) in
           subst (λ k. ReadTo l a c.args.file range c.args.at k end c.args.report.now c.read_part.new.report x z) place
           (read_to_more l a c.args.file range c.args.at (c.args.at + c.loop-done.done) end c.part_from-part.result c.loop-done.invariant.part.counts c.in-Ok.ensures.part.counts c.args.report.now c.loop-done.report c.read_part.new.report x y z
@@ -77,8 +75,11 @@ loop-done-preserved g c =
 
 pub returns-in-Err-clause-cause : goal.returns-in-Err-clause-cause
 returns-in-Err-clause-cause g c =
-    caused_later (Some c.in-Err.e) (g.S.BlobSource.faults c.args.source.now) (g.S.BlobSource.faults c.loop-done.source) (g.S.BlobSource.faults c.read_part.new.source) c.args.setting.now.mount (g.D.CacheDoor.seen_gone c.read_part.new.door c.args.setting.now.mount)
-    c.loop-done.invariant.part.goes.faults c.in-Err.ensures.cause
+    let l = read_setting g.A.Archive.tells g.A.Archive.blobs c.args.table.now c.args.setting.now in
+    let x = moment (g.S.BlobSource.view c.args.source.now) (g.D.CacheDoor.view c.args.door.now) in
+    let y = moment (g.S.BlobSource.view c.loop-done.source) (g.D.CacheDoor.view c.loop-done.door) in
+    let z = moment (g.S.BlobSource.view c.read_part.new.source) (g.D.CacheDoor.view c.read_part.new.door) in
+    caused_later (Some c.in-Err.e) (files_seen l x false) (files_seen l y false) (files_seen l z false) c.loop-done.invariant.part.goes.faults refl c.in-Err.ensures.cause
 
 pub returns-in-Err-clause-part : goal.returns-in-Err-clause-part
 returns-in-Err-clause-part g c =
@@ -129,40 +130,39 @@ returns-clause-empty g c e = let k = c.loop-done.invariant.empty e in (refl, k.0
 pub returns-in-Err-clause-entries : goal.returns-in-Err-clause-entries
 returns-in-Err-clause-entries g c =
     let l = read_setting g.A.Archive.tells g.A.Archive.blobs c.args.table.now c.args.setting.now in
-    let a = g.D.CacheDoor.actor c.args.door.now in
+    let a = (g.D.CacheDoor.view c.args.door.now).actor in
     let range = c.args.setting.now.config.range in
     let end = c.args.at + length c.args.out.now in
-    let x = (moment (g.S.BlobSource.faults c.args.source.now) (g.S.BlobSource.taken c.args.source.now) (g.D.CacheDoor.frame_faults c.args.door.now) (g.D.CacheDoor.seen_gone c.args.door.now) (g.D.CacheDoor.unmounted c.args.door.now) (g.D.CacheDoor.work c.args.door.now) (g.D.CacheDoor.state c.args.door.now)) in
-    let y = (moment (g.S.BlobSource.faults c.loop-done.source) (g.S.BlobSource.taken c.loop-done.source) (g.D.CacheDoor.frame_faults c.loop-done.door) (g.D.CacheDoor.seen_gone c.loop-done.door) (g.D.CacheDoor.unmounted c.loop-done.door) (g.D.CacheDoor.work c.loop-done.door) (g.D.CacheDoor.state c.loop-done.door)) in
-    let z = (moment (g.S.BlobSource.faults c.read_part.new.source) (g.S.BlobSource.taken c.read_part.new.source) (g.D.CacheDoor.frame_faults c.read_part.new.door) (g.D.CacheDoor.seen_gone c.read_part.new.door) (g.D.CacheDoor.unmounted c.read_part.new.door) (g.D.CacheDoor.work c.read_part.new.door) (g.D.CacheDoor.state c.read_part.new.door)) in
-    let act : g.D.CacheDoor.actor c.loop-done.door ≡ a = g.met.D.CacheDoor.same_actor _ _ c.loop-done.invariant.stays in
+    let x = (moment (g.S.BlobSource.view c.args.source.now) (g.D.CacheDoor.view c.args.door.now)) in
+    let y = (moment (g.S.BlobSource.view c.loop-done.source) (g.D.CacheDoor.view c.loop-done.door)) in
+    let z = (moment (g.S.BlobSource.view c.read_part.new.source) (g.D.CacheDoor.view c.read_part.new.door)) in
+    let act : (g.D.CacheDoor.view c.loop-done.door).actor ≡ a = (g.met.D.CacheDoor.later _ _ c.loop-done.invariant.stays).actor in
     let mount = c.args.setting.now.mount in
-    let gone = g.D.CacheDoor.seen_gone c.read_part.new.door mount in
-    entries_refused (Unit {0}) c.in-Err.e l a c.args.file range c.args.at (c.args.at + c.loop-done.done) end c.part_from-part.result c.loop-done.invariant.part.counts c.in-Err.ensures.part.counts c.args.report.now c.loop-done.report c.read_part.new.report x y z gone
+    entries_refused (Unit {0}) c.in-Err.e l a c.args.file range c.args.at (c.args.at + c.loop-done.done) end c.part_from-part.result c.loop-done.invariant.part.counts c.in-Err.ensures.part.counts c.args.report.now c.loop-done.report c.read_part.new.report x y z
     c.requires.limits.range.0 (omega arith) c.part_from-part.ensures.start c.part_from-part.ensures.end c.loop-done.invariant.part.goes c.in-Err.ensures.part.goes
-    c.in-Err.ensures.cause (λ seen t e. sym ((told_of (Agrees g.A.Archive.tells (content g.A.Archive.blobs) (g.D.CacheDoor.config c.read_part.new.door) (g.D.CacheDoor.frames_tell c.read_part.new.door) (g.D.CacheDoor.hold c.read_part.new.door) (g.D.CacheDoor.actor c.read_part.new.door) (g.D.CacheDoor.seen_gone c.read_part.new.door) (g.D.CacheDoor.unmounted c.read_part.new.door)) (g.D.CacheDoor.state c.read_part.new.door) t c.lesson-in-Err.ensures.told e).gone mount).0 ∙ seen) (rw act at c.in-Err.ensures.entries) c.loop-done.invariant.entries
+    c.in-Err.ensures.cause (λ seen t e. sym ((at_rest g.A.Archive.tells (content g.A.Archive.blobs) (g.D.CacheDoor.view c.read_part.new.door) t (g.met.D.CacheDoor.at_rest c.read_part.new.door) e).gone mount).0 ∙ seen) (rw act at c.in-Err.ensures.entries) c.loop-done.invariant.entries
 
 pub returns-in-Err-clause-exact : goal.returns-in-Err-clause-exact
 returns-in-Err-clause-exact g c =
-    exactly_entries _ (g.D.CacheDoor.actor c.args.door.now) (record { file = c.args.file; at = c.args.at; size = length c.args.out.now }) _ _ _ _ _
-    (λ s e. (told_of (Agrees g.A.Archive.tells (content g.A.Archive.blobs) (g.D.CacheDoor.config c.args.door.now) (g.D.CacheDoor.frames_tell c.args.door.now) (g.D.CacheDoor.hold c.args.door.now) (g.D.CacheDoor.actor c.args.door.now) (g.D.CacheDoor.seen_gone c.args.door.now) (g.D.CacheDoor.unmounted c.args.door.now)) (g.D.CacheDoor.state c.args.door.now) s c.lesson.ensures.told e).config ∙ c.requires.own)
+    exactly_entries _ (g.D.CacheDoor.view c.args.door.now).actor (record { file = c.args.file; at = c.args.at; size = length c.args.out.now }) _ _ _ _ _
+    (λ s e. (at_rest g.A.Archive.tells (content g.A.Archive.blobs) (g.D.CacheDoor.view c.args.door.now) s (g.met.D.CacheDoor.at_rest c.args.door.now) e).config ∙ c.requires.own)
     (returns-in-Err-clause-entries g c)
 
 pub returns-clause-entries : goal.returns-clause-entries
 returns-clause-entries g c =
     let l = read_setting g.A.Archive.tells g.A.Archive.blobs c.args.table.now c.args.setting.now in
-    let a = g.D.CacheDoor.actor c.args.door.now in
+    let a = (g.D.CacheDoor.view c.args.door.now).actor in
     let range = c.args.setting.now.config.range in
     let end = c.args.at + length c.args.out.now in
-    let x = (moment (g.S.BlobSource.faults c.args.source.now) (g.S.BlobSource.taken c.args.source.now) (g.D.CacheDoor.frame_faults c.args.door.now) (g.D.CacheDoor.seen_gone c.args.door.now) (g.D.CacheDoor.unmounted c.args.door.now) (g.D.CacheDoor.work c.args.door.now) (g.D.CacheDoor.state c.args.door.now)) in
-    let y = (moment (g.S.BlobSource.faults c.loop-done.source) (g.S.BlobSource.taken c.loop-done.source) (g.D.CacheDoor.frame_faults c.loop-done.door) (g.D.CacheDoor.seen_gone c.loop-done.door) (g.D.CacheDoor.unmounted c.loop-done.door) (g.D.CacheDoor.work c.loop-done.door) (g.D.CacheDoor.state c.loop-done.door)) in
+    let x = (moment (g.S.BlobSource.view c.args.source.now) (g.D.CacheDoor.view c.args.door.now)) in
+    let y = (moment (g.S.BlobSource.view c.loop-done.source) (g.D.CacheDoor.view c.loop-done.door)) in
     let all : c.args.at + c.loop-done.done ≡ end = omega (arith, c.loop-done.invariant.low, c.loop-done-test.false) in
     read_to_all l a c.args.file range c.args.at (c.args.at + c.loop-done.done) end c.args.report.now c.loop-done.report x y all c.loop-done.invariant.entries
 
 pub returns-clause-exact : goal.returns-clause-exact
 returns-clause-exact g c =
-    exactly_entries _ (g.D.CacheDoor.actor c.args.door.now) (record { file = c.args.file; at = c.args.at; size = length c.args.out.now }) _ _ _ _ _
-    (λ s e. (told_of (Agrees g.A.Archive.tells (content g.A.Archive.blobs) (g.D.CacheDoor.config c.args.door.now) (g.D.CacheDoor.frames_tell c.args.door.now) (g.D.CacheDoor.hold c.args.door.now) (g.D.CacheDoor.actor c.args.door.now) (g.D.CacheDoor.seen_gone c.args.door.now) (g.D.CacheDoor.unmounted c.args.door.now)) (g.D.CacheDoor.state c.args.door.now) s c.lesson.ensures.told e).config ∙ c.requires.own)
+    exactly_entries _ (g.D.CacheDoor.view c.args.door.now).actor (record { file = c.args.file; at = c.args.at; size = length c.args.out.now }) _ _ _ _ _
+    (λ s e. (at_rest g.A.Archive.tells (content g.A.Archive.blobs) (g.D.CacheDoor.view c.args.door.now) s (g.met.D.CacheDoor.at_rest c.args.door.now) e).config ∙ c.requires.own)
     (returns-clause-entries g c)
 
 pub returns-in-Err-clause-stays : goal.returns-in-Err-clause-stays
