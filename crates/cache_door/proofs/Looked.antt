@@ -1,6 +1,6 @@
 -- Calls that read a cell's frame: the state stays, and the frame's answer is the cell's.
 use Rattle.std.proofs.Common.{arith, ◌≡◌, ◌<◌, ◌≤◌, ◌+◌, ◌-◌, ◌/◌, min, ℕ, Bool, List, [], sym, subst, ◌∙◌, ap, inl, inr, refl, length, set, get_or, Option, Some}
-use Rattle.std.specs.Prelude.{◌==◌, ◌↔◌, IsTrue, IfSome}
+use Rattle.std.specs.Prelude.{◌==◌, ◌↔◌, ◌⊎◌, IsTrue, IfSome}
 use Rattle.std.specs.List.{list_all, list_any}
 use Rattle.std.proofs.lemmas.Bool.{cases_Bool, false≢true}
 use Rattle.std.proofs.lemmas.List.Folds.{list_all_at}
@@ -22,7 +22,7 @@ use Rattle.cache_door.specs.declared.answers.Glance.{Glance}
 use Rattle.cache_door.specs.declared.answers.Glance.TheVariants as glance
 use Rattle.cache_door.specs.Machine.{State, Cell, cell_at, hold_at, with_cell, taken_of, look_at}
 use Rattle.cache_door.specs.Good.{Good}
-use Rattle.cache_door.specs.Doors.{HoldView, hold_view, IsWant}
+use Rattle.cache_door.specs.Doors.{HoldView, hold_view, IsWant, CopyOrFault}
 use Rattle.cache_door.proofs.Places.{is_same}
 use Rattle.cache_door.specs.Counters.{counters_same}
 use Rattle.cache_door.specs.Cores.{CoreView, view_at, all_tell, all_steady, all_faults, cell_of, state_of, no_frame, IsKept, Later}
@@ -125,6 +125,28 @@ taken_is t k result w f settled n = elim (cases_Bool (list_all is_present (byte_
     not_failed : status_of.Ready ≡ status_of.Failed → ⊥
     not_failed e = cc
 
+-- where the ticket is ready all its bytes are present
+ready_taken : (t : Tracker) (k : Ticket) → status k t ≡ status_of.Ready → taken_of (byte_states_in k.start k.end t.byte_states) ≡ taken.Copied
+ready_taken t k e = elim (cases_Bool (list_all is_present (byte_states_in k.start k.end t.byte_states))) [
+  | inl all ↦ rw all refl
+  | inr some ↦ elim (cases_Bool (list_any is_absent (byte_states_in k.start k.end t.byte_states))) [
+    | inr none ↦ absurd (not_waiting (rw (some, none) at e))
+    | inl any ↦ elim (cases_Bool k.failed) [
+      | inl marked ↦ absurd (not_failed (rw (some, any, marked) at e))
+      | inr unmarked ↦ absurd (not_open (rw (some, any, unmarked) at e))
+    ]
+  ]
+]
+  where
+    not_waiting : status_of.Waiting ≡ status_of.Ready → ⊥
+    not_waiting e = cc
+
+    not_failed : status_of.Failed ≡ status_of.Ready → ⊥
+    not_failed e = cc
+
+    not_open : status_of.Open ≡ status_of.Ready → ⊥
+    not_open e = cc
+
 module _ {tells : Bool} {files : ℕ → ℕ → List ℕ} (v u : CoreView) (is : v ≡ u) (kept : IsKept tells files v) (a : ℕ) (o : Option Hold) (h : Hold)
     (read : o ≡ get_or v.holds a o) (some : o ≡ Some h) (actor_u : a < length u.holds) (x : CellView) (at : x ≡ get_or v.cells h.region x) where
   abbrev t : Tracker
@@ -151,14 +173,20 @@ module _ {tells : Bool} {files : ℕ → ℕ → List ℕ} (v u : CoreView) (is 
       rw k.1 (rw (k.2, k.3) l)
 
   pub copy_answer : (result : Taken) → IfSome (ticket_of h.ticket t) (λ k. (result ≡ taken.Waiting) ↔ (status k t ≡ status_of.Waiting)) → IfSome (ticket_of h.ticket t) (λ k. (result ≡ taken.Failed) ↔ (status k t ≡ status_of.Failed))
-      → ((n : ℕ) (k : Ticket) → ticket_of n t ≡ Some k → ¬ (status k t ≡ status_of.Open)) → ¬ (result ≡ taken.FrameFault)
-      → result ≡ machine.take_bytes (hold_at (state_of u) a) (state_of u)
-  copy_answer result w f settled n =
+      → IfSome (ticket_of h.ticket t) (λ k. ((result ≡ taken.Copied) ⊎ (result ≡ taken.FrameFault)) ↔ (status k t ≡ status_of.Ready))
+      → ((n : ℕ) (k : Ticket) → ticket_of n t ≡ Some k → ¬ (status k t ≡ status_of.Open))
+      → CopyOrFault taken.Copied taken.FrameFault (machine.take_bytes (hold_at (state_of u) a) (state_of u)) result
+  copy_answer result w f r settled =
       let k = ticket_is in
-      let P : CoreView → Type 0 = λ c. result ≡ machine.take_bytes (Some h) (state_of c) in
-      rw now_held (subst P is (taken_is t k.0 result (rw k.1 at w) (rw k.1 at f) (settled h.ticket k.0 k.1) n
-      ∙ ap (λ (c : Region). taken_of (byte_states_in k.0.start k.0.end c.tracker.byte_states)) (sym here)
-      ∙ rw (k.2, k.3) refl))
+      let P : CoreView → Type 0 = λ c. taken_of (byte_states_in k.0.start k.0.end t.byte_states) ≡ machine.take_bytes (Some h) (state_of c) in
+      let e : taken_of (byte_states_in k.0.start k.0.end t.byte_states) ≡ machine.take_bytes (hold_at (state_of u) a) (state_of u) =
+      rw now_held (subst P is (
+      ap (λ (c : Region). taken_of (byte_states_in k.0.start k.0.end c.tracker.byte_states)) (sym here)
+      ∙ rw (k.2, k.3) refl)) in
+      record {
+        same = λ n. taken_is t k.0 result (rw k.1 at w) (rw k.1 at f) (settled h.ticket k.0 k.1) n ∙ e;
+        present = λ x. sym e ∙ ready_taken t k.0 ((rw k.1 at r).0 (inr x));
+      }
 
   -- the bytes copied are the cell's, and the content's
   pub copy_bytes : (out : List ℕ) → IsTrue (all_tell u.cells) → (IsTrue x.metadata.frame.tells → IfSome (ticket_of h.ticket t) (λ k. out ≡ slice_of x.bytes k.start (k.end - k.start)))
@@ -205,8 +233,11 @@ module _ {tells : Bool} {files : ℕ → ℕ → List ℕ} (v u : CoreView) (is 
       let e = subst Q (read_is v.cells r x (new_cell no_frame 0 []) at within) (kept.sized r within).0 in
       rw e (subst P (sym is) w).sub.2
 
-  pub glance_answer : (result : Glance) → result ≡ look_at want x.metadata.region → result ≡ machine.look r want (state_of u)
-  glance_answer result e = let P : CoreView → Type 0 = λ q. result ≡ machine.look r want (state_of q) in subst P is (e ∙ ap (λ (c : Cell). look_at want c.region) (sym cell_x))
+  pub glance_answer : (result : Glance) → CopyOrFault glance.Copied glance.FrameFault (look_at want x.metadata.region) result → CopyOrFault glance.Copied glance.FrameFault (machine.look r want (state_of u)) result
+  glance_answer result e =
+      let P : CoreView → Type 0 = λ q. CopyOrFault glance.Copied glance.FrameFault (machine.look r want (state_of q)) result in
+      let Q : Cell → Type 0 = λ c. CopyOrFault glance.Copied glance.FrameFault (look_at want c.region) result in
+      subst P is (subst Q (sym cell_x) e)
 
   pub glance_bytes : (out : List ℕ) → IsTrue (all_tell u.cells) → (IsTrue x.metadata.frame.tells → out ≡ slice_of x.bytes want.sub.start (want.sub.end - want.sub.start)) → out ≡ machine.bytes_in r want.sub (state_of u)
   glance_bytes out told copied =

@@ -81,7 +81,7 @@ impl<A: Archive, F: Frame> RegionCell<A, F> {
     /// What is true of every cell.
     pub fn lesson(&self)
         ensures good { IsGood A.tells (content A.blobs) self.now }
-        ensures settled { (n : ℕ) (k : Ticket) → ticket_of n self.now.metadata.region.tracker ≡ Some k → status k self.now.metadata.region.tracker ≢ status_of.Open }
+        ensures settled { NeverOpen self.now.metadata.region.tracker }
     {
         self.tracker.lesson();
     }
@@ -92,7 +92,7 @@ impl<A: Archive, F: Frame> RegionCell<A, F> {
         requires gaps { self.old.metadata.region.tracker.gaps ≡ [] }
         requires tickets { self.old.metadata.region.tracker.tickets ≡ [] }
         requires len { (0 < len) × (len ≤ self.old.metadata.frame.size) }
-        requires told { IsTrue A.tells → len ≡ length (region_bytes (content A.blobs) self.old.metadata.frame.size (tag_of key)) }
+        requires whole { IsTrue A.tells → len ≡ part_length (content A.blobs) self.old.metadata.frame.size (tag_of key) }
         ensures { self.new ≡ with_region (assign (tag_of key) len self.old.metadata.region) self.old }
     {
         self.key = Some(key);
@@ -113,7 +113,7 @@ impl<A: Archive, F: Frame> RegionCell<A, F> {
     /// where there is any, and else may be refused for want of memory, with all as before.
     pub fn claim(&mut self, sub: ByteRange) -> Result<Claim, AllocError>
         requires { LiesInRange sub self.old.metadata }
-        ensures ok { OnOk result (self.new ≡ record (with_region (claim self.old.metadata.range sub self.old.metadata.region) self.old) { spare = self.old.spare - 1 }) }
+        ensures ok { OnOk result (self.new ≡ claimed sub self.old) }
         ensures claim { IfOk result (λ c. c ≡ new_claim self.old.metadata.range sub self.old.metadata.region) }
         ensures err { OnErr result (self.new ≡ self.old) }
         ensures room { 0 < self.old.spare → IsOk result }
@@ -129,17 +129,13 @@ impl<A: Archive, F: Frame> RegionCell<A, F> {
     /// `Waiting` and `Failed` come exactly by the ticket's status, and `FrameFault` only where the frame's count of failures
     /// rose in this call. After another answer than `Copied` `out` may hold anything.
     pub fn copy(&mut self, ticket: u32, out: &mut [u8]) -> Taken
-        requires ticket { IsSome (ticket_of ticket self.old.metadata.region.tracker) }
-        requires len { IfSome (ticket_of ticket self.old.metadata.region.tracker) (λ k. length out.old ≡ k.end - k.start) }
-        ensures same { self.new ≡ with_frame self.new.metadata.frame self.old }
-        ensures frame { FrameStays self.old.metadata.frame self.new.metadata.frame }
-        ensures waiting { IfSome (ticket_of ticket self.old.metadata.region.tracker) (λ k. (result ≡ Taken.Waiting) ↔ (status k self.old.metadata.region.tracker ≡ status_of.Waiting)) }
-        ensures failed { IfSome (ticket_of ticket self.old.metadata.region.tracker) (λ k. (result ≡ Taken.Failed) ↔ (status k self.old.metadata.region.tracker ≡ status_of.Failed)) }
-        ensures ready { IfSome (ticket_of ticket self.old.metadata.region.tracker) (λ k. ((result ≡ Taken.Copied) ⊎ (result ≡ Taken.FrameFault)) ↔ (status k self.old.metadata.region.tracker ≡ status_of.Ready)) }
+        requires ticket { IsSome (ticket_in ticket self.old) }
+        requires len { IfSome (ticket_in ticket self.old) (λ k. length out.old ≡ k.end - k.start) }
+        ensures same { FrameOnly self.old self.new }
+        ensures answer { IfSome (ticket_in ticket self.old) (CopyAnswer self.old result) }
         ensures fault { result ≡ Taken.FrameFault → Faulted self.old.metadata.frame self.new.metadata.frame }
-        ensures steady { IsTrue self.old.metadata.frame.steady → result ≢ Taken.FrameFault }
-        ensures bytes { IsTrue self.old.metadata.frame.tells → result ≡ Taken.Copied → IfSome (ticket_of ticket self.old.metadata.region.tracker) (λ k. out.new ≡ slice_of self.old.bytes k.start (k.end - k.start)) }
-        ensures content { IsTrue A.tells → IsTrue self.old.metadata.frame.tells → result ≡ Taken.Copied → IfSome (ticket_of ticket self.old.metadata.region.tracker) (λ k. out.new ≡ slice_of (region_bytes (content A.blobs) self.old.metadata.frame.size self.old.metadata.region.tag) k.start (k.end - k.start)) }
+        ensures bytes { result ≡ Taken.Copied → IfSome (ticket_in ticket self.old) (λ k. CellBytes self.old k.start k.end out.new) }
+        ensures content { IsTrue A.tells → result ≡ Taken.Copied → IfSome (ticket_in ticket self.old) (λ k. ContentBytes (content A.blobs) self.old k.start k.end out.new) }
     {
         match self.tracker.status(ticket) {
             Status::Waiting => Taken::Waiting,
@@ -163,13 +159,11 @@ impl<A: Archive, F: Frame> RegionCell<A, F> {
     pub fn peek(&mut self, sub: ByteRange, out: &mut [u8]) -> Option<Result<(), FrameFault>>
         requires sub { LiesInRange sub self.old.metadata }
         requires len { length out.old ≡ sub.end - sub.start }
-        ensures same { self.new ≡ with_frame self.new.metadata.frame self.old }
-        ensures frame { FrameStays self.old.metadata.frame self.new.metadata.frame }
+        ensures same { FrameOnly self.old self.new }
         ensures some { is_some result ≡ are_present sub self.old.metadata.region }
         ensures fault { IfSome result (λ r. OnErr r (Faulted self.old.metadata.frame self.new.metadata.frame)) }
-        ensures steady { IsTrue self.old.metadata.frame.steady → IfSome result (λ r. IsOk r) }
-        ensures bytes { IsTrue self.old.metadata.frame.tells → IfSome result (λ r. OnOk r (out.new ≡ slice_of self.old.bytes sub.start (sub.end - sub.start))) }
-        ensures content { IsTrue A.tells → IsTrue self.old.metadata.frame.tells → IfSome result (λ r. OnOk r (out.new ≡ slice_of (region_bytes (content A.blobs) self.old.metadata.frame.size self.old.metadata.region.tag) sub.start (sub.end - sub.start))) }
+        ensures bytes { IfSome result (λ r. OnOk r (CellBytes self.old sub.start sub.end out.new)) }
+        ensures content { IsTrue A.tells → IfSome result (λ r. OnOk r (ContentBytes (content A.blobs) self.old sub.start sub.end out.new)) }
     {
         if !self.tracker.has_all(sub) {
             return None;
@@ -183,16 +177,13 @@ impl<A: Archive, F: Frame> RegionCell<A, F> {
     /// `FrameFault` comes only where the frame's count of failures rose in this call. Which bytes are present, pending and
     /// absent is then as before.
     pub fn store(&mut self, gap: u32, piece: &Piece<A>) -> Result<(), FrameFault>
-        requires gap { IsSome (gap_of gap self.old.metadata.region.tracker) }
-        requires piece { IfSome (gap_of gap self.old.metadata.region.tracker) (λ g. FitsGap self.old.metadata.frame.size self.old.metadata.region.tag g piece.now) }
-        ensures rest { self.new ≡ record (with_frame self.new.metadata.frame (with_region self.new.metadata.region self.old)) { bytes = self.new.bytes } }
-        ensures frame { FrameStays self.old.metadata.frame self.new.metadata.frame }
-        ensures ok { OnOk result (IfSome (gap_of gap self.old.metadata.region.tracker) (λ g. self.new.metadata.region ≡ progress gap (g.upto + length piece.now.bytes) self.old.metadata.region)) }
-        ensures bytes { IsTrue self.old.metadata.frame.tells → OnOk result (IfSome (gap_of gap self.old.metadata.region.tracker) (λ g. self.new.bytes ≡ put_at g.upto piece.now.bytes self.old.bytes)) }
+        requires gap { IsSome (gap_in gap self.old) }
+        requires piece { IfSome (gap_in gap self.old) (λ g. FitsCell self.old g piece.now) }
+        ensures rest { StoreOnly self.old self.new }
+        ensures ok { OnOk result (IfSome (gap_in gap self.old) (Stored gap piece.now.bytes self.old self.new)) }
         ensures err { OnErr result (self.new.metadata.region ≡ self.old.metadata.region) }
-        ensures outside { IsTrue self.old.metadata.frame.tells → OnErr result (IfSome (gap_of gap self.old.metadata.region.tracker) (λ g. SameOutside g.upto (length piece.now.bytes) self.old.bytes self.new.bytes)) }
+        ensures outside { OnErr result (IfSome (gap_in gap self.old) (Unstored (length piece.now.bytes) self.old self.new)) }
         ensures fault { OnErr result (Faulted self.old.metadata.frame self.new.metadata.frame) }
-        ensures steady { IsTrue self.old.metadata.frame.steady → IsOk result }
     {
         self.tracker.lesson();
         let bytes = piece.bytes();
@@ -205,7 +196,7 @@ impl<A: Archive, F: Frame> RegionCell<A, F> {
     /// The gap's bytes that are still pending are absent again, and the gap is closed. Each ticket that waits for one of them
     /// is marked failed.
     pub fn fail(&mut self, gap: u32)
-        requires { IsSome (gap_of gap self.old.metadata.region.tracker) }
+        requires { IsSome (gap_in gap self.old) }
         ensures { self.new ≡ with_region (fail gap self.old.metadata.region) self.old }
     {
         self.tracker.fail(gap);
@@ -213,7 +204,7 @@ impl<A: Archive, F: Frame> RegionCell<A, F> {
 
     /// Forgets the ticket.
     pub fn leave(&mut self, ticket: u32)
-        requires { IsSome (ticket_of ticket self.old.metadata.region.tracker) }
+        requires { IsSome (ticket_in ticket self.old) }
         ensures { self.new ≡ with_region (leave ticket self.old.metadata.region) self.old }
     {
         self.tracker.leave(ticket);

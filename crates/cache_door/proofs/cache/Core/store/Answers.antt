@@ -29,10 +29,10 @@ pub returns-in-Err-clause-same : goal.returns-in-Err-clause-same
 returns-in-Err-clause-same g c = let i = c.self.inside in faulted_same (core_view i.config i.policy i.cells.items i.holds.items i.gone.items i.work) c.args.self.now c.self.view_is c.self.invariant c.args.actor c.index.result.now c.in-Some.hold c.index.ensures c.in-Some.is c.requires.actor c.index_mut-cell.result.now c.index_mut-cell.ensures.value c.args.piece.now c.requires.piece c.store.new.self c.store.ensures.rest c.store.ensures.frame c.in-Err.ensures.err (λ t. c.in-Err.ensures.outside t) c.turn_away.new.self
 
 pub returns-in-Err-clause-fault : goal.returns-in-Err-clause-fault
-returns-in-Err-clause-fault g c = let i = c.self.inside in store_fault (core_view i.config i.policy i.cells.items i.holds.items i.gone.items i.work) c.args.self.now c.self.view_is c.self.invariant c.args.actor c.index.result.now c.in-Some.hold c.index.ensures c.in-Some.is c.requires.actor c.index_mut-cell.result.now c.index_mut-cell.ensures.value c.args.piece.now c.requires.piece c.store.new.self c.store.ensures.rest c.store.ensures.frame c.in-Err.ensures.fault
-
-pub returns-in-Err-clause-steady : goal.returns-in-Err-clause-steady
-returns-in-Err-clause-steady g c all = let i = c.self.inside in c.in-Err.ensures.steady (store_steady (core_view i.config i.policy i.cells.items i.holds.items i.gone.items i.work) c.args.self.now c.self.view_is c.self.invariant c.args.actor c.index.result.now c.in-Some.hold c.index.ensures c.in-Some.is c.requires.actor c.index_mut-cell.result.now c.index_mut-cell.ensures.value c.args.piece.now c.requires.piece c.store.new.self c.store.ensures.rest c.store.ensures.frame all)
+returns-in-Err-clause-fault g c = let i = c.self.inside in record {
+  rose = store_fault (core_view i.config i.policy i.cells.items i.holds.items i.gone.items i.work) c.args.self.now c.self.view_is c.self.invariant c.args.actor c.index.result.now c.in-Some.hold c.index.ensures c.in-Some.is c.requires.actor c.index_mut-cell.result.now c.index_mut-cell.ensures.value c.args.piece.now c.requires.piece c.store.new.self c.store.ensures.rest c.store.ensures.frame c.in-Err.ensures.fault;
+  unsteady = λ all. c.in-Err.ensures.steady (store_steady (core_view i.config i.policy i.cells.items i.holds.items i.gone.items i.work) c.args.self.now c.self.view_is c.self.invariant c.args.actor c.index.result.now c.in-Some.hold c.index.ensures c.in-Some.is c.requires.actor c.index_mut-cell.result.now c.index_mut-cell.ensures.value c.args.piece.now c.requires.piece c.store.new.self c.store.ensures.rest c.store.ensures.frame all);
+}
 
 pub returns-in-Err-clause-later : goal.returns-in-Err-clause-later
 returns-in-Err-clause-later g c = let i = c.self.inside in faulted_later (core_view i.config i.policy i.cells.items i.holds.items i.gone.items i.work) c.args.self.now c.self.view_is c.self.invariant c.args.actor c.index.result.now c.in-Some.hold c.index.ensures c.in-Some.is c.requires.actor c.index_mut-cell.result.now c.index_mut-cell.ensures.value c.args.piece.now c.requires.piece c.store.new.self c.store.ensures.rest c.store.ensures.frame c.in-Err.ensures.err (λ t. c.in-Err.ensures.outside t) c.turn_away.new.self
