@@ -90,7 +90,7 @@ room_kept {tells} {files} v p e settled_good good kept =
 
 module _ {tells : Bool} {files : ℕ → ℕ → List ℕ} (v : CoreView) (r : ℕ) (x y : CellView) (kept : IsKept tells files v) (within : r < length v.cells) (read : x ≡ get_or v.cells r x) where
   pub x_at : view_at v.cells r ≡ x
-  x_at = read_is v.cells r x (new_cell no_frame 0 []) read within
+  x_at = read_is v.cells r x (new_cell no_frame 0) read within
 
   pub cell_x : cell_at (state_of v) r ≡ cell_of (all_tell v.cells) x
   cell_x = cell_is v r within ∙ ap (λ (c : CellView). cell_of (all_tell v.cells) c) x_at
@@ -156,7 +156,7 @@ module _ {tells : Bool} {files : ℕ → ℕ → List ℕ} (v : CoreView) (r : �
   assign_tickets = sym (ap (λ (q : Region). q.tracker.tickets) region_x) ∙ no_tickets s r kept.good within_s off
 
   pub assign_size : x.metadata.frame.size ≡ v.config.region
-  assign_size = let P : CellView → Type 0 = λ q. q.metadata.frame.size ≡ v.config.region in subst P (read_is v.cells r x (new_cell no_frame 0 []) read within) (kept.sized r within).1
+  assign_size = let P : CellView → Type 0 = λ q. q.metadata.frame.size ≡ v.config.region in subst P (read_is v.cells r x (new_cell no_frame 0) read within) (kept.sized r within).1
 
   pub assign_kept : (y : CellView) (p : PolicyView) (tag now len : ℕ) → tag ≢ free_tag → p ≡ map_front r tag now v.policy → policy.IsGood p → ((j : ℕ) → tag_at p j ≡ (if j == r then Some tag else tag_at v.policy j))
       → y ≡ with_region (cells.assign tag len x.metadata.region) x → cells.IsGood tells files y → IsKept tells files (record v { policy = p; cells = set v.cells r y })
@@ -202,7 +202,7 @@ module _ {tells : Bool} {files : ℕ → ℕ → List ℕ} (v u : CoreView) (is 
   region_t = sym (ap (λ (q : Cell). q.region) (cell_x v r x x kept within read))
 
   pub range_t : x.metadata.range ≡ v.config.range
-  range_t = let P : CellView → Type 0 = λ q. q.metadata.range ≡ v.config.range in subst P (read_is v.cells r x (new_cell no_frame 0 []) read within) (kept.sized r within).0
+  range_t = let P : CellView → Type 0 = λ q. q.metadata.range ≡ v.config.range in subst P (read_is v.cells r x (new_cell no_frame 0) read within) (kept.sized r within).0
 
   record Facts (y : CellView) (h : Hold) (g : Option ByteRange) (n : ℕ) (R : Region) : Type 0 where
     cell : y.metadata.region ≡ cells.claim n want.sub R
@@ -253,7 +253,7 @@ module _ {tells : Bool} {files : ℕ → ℕ → List ℕ} (v u : CoreView) (is 
       → IsEntry u.config want (Held r g)
   hold_entry l g f =
       let Q : CoreView → Type 0 = λ q. len_of (view_at q.cells r).metadata.region ≡ want.len in
-      let n : len_of x.metadata.region ≡ want.len = sym (ap (λ (c : CellView). len_of c.metadata.region) (read_is v.cells r x (new_cell no_frame 0 []) read within)) ∙ subst Q (sym is) l in
+      let n : len_of x.metadata.region ≡ want.len = sym (ap (λ (c : CellView). len_of c.metadata.region) (read_is v.cells r x (new_cell no_frame 0) read within)) ∙ subst Q (sym is) l in
       let P : CoreView → Type 0 = λ q. IsEntry q.config want (Held r g) in
       let m = length_map (cell_of (all_tell v.cells)) v.cells in
       let R : ℕ → Type 0 = λ k. IfSome g (λ q. (q.start < q.end) × (want.sub.start / k * k ≤ q.start) × (q.end ≤ want.sub.start / k * k + k) × (q.end ≤ want.len)) in

@@ -3,18 +3,12 @@ use Rattle.std.specs.Prelude.{◌<◌, ◌≤◌, ◌+◌, ◌-◌, ◌*◌, ◌
 use Rattle.region_ranges.specs.declared.ranges.ByteRange.{ByteRange}
 use Rattle.sparse_tracker.specs.declared.gaps.OpenGap.{OpenGap}
 use Rattle.sparse_tracker.specs.declared.status.Gap.{Gap}
-use Rattle.region_cell.specs.Cells.{CellView, with_region, claim}
-use Rattle.cache_door.specs.declared.answers.Want.{Want}
 use Rattle.cache_door.specs.Machine.{no_gap}
 
 -- the gap that a claim opened, as the hold keeps it
 abbrev pub gap_opened : Option Gap → OpenGap
 gap_opened None = no_gap
 gap_opened (Some g) = record { id = g.id; upto = g.range.start; end = g.range.end }
-
--- the cell after a claim, for which there was room
-abbrev pub claimed : ByteRange → CellView → CellView
-claimed sub c = record (with_region (claim c.metadata.range sub c.metadata.region) c) { spare = c.spare - 1 }
 
 -- a gap is not empty, and lies in the aligned range of what is wanted and in the region's part of the file, of `len` bytes
 abbrev pub IsGap : ℕ → ByteRange → ℕ → ByteRange → Type 0

@@ -7,7 +7,8 @@ use Rattle.region_ranges.specs.Keys.{tag_of}
 use Rattle.cache_policy.specs.Policy.{PolicyView, mapped_len}
 use Rattle.cache_policy.specs.Ageing.{map_front}
 use Rattle.cache_policy.specs.declared.tally.Tally4.{Tally4}
-use Rattle.region_cell.specs.Cells.{CellView, FrameMetadata, new_cell, with_region, assign}
+use Rattle.cache_outside.specs.Frames.{FrameView}
+use Rattle.region_cell.specs.Cells.{CellView, new_cell, with_region, assign}
 use Rattle.cache_door.specs.declared.answers.Want.{Want}
 use Rattle.cache_door.specs.declared.answers.Entered.{Entered}
 use Rattle.cache_door.specs.declared.hold.Hold.{Hold}
@@ -28,12 +29,12 @@ pub record CoreView : Type 0 where
 abbrev pub core_view : Config → PolicyView → List CellView → List (Option Hold) → List Bool → Work → CoreView
 core_view config policy cells holds gone work = record { config = config; policy = policy; cells = cells; holds = holds; gone = gone; work = work }
 
-abbrev pub no_frame : FrameMetadata
-no_frame = record { faults = 0; size = 0; tells = false; steady = false }
+abbrev pub no_frame : FrameView
+no_frame = record { faults = 0; size = 0; tells = false; steady = false; bytes = [] }
 
 -- the cell of region r, or one of no bytes
 abbrev pub view_at : List CellView → ℕ → CellView
-view_at cells r = slice_index_or cells r (new_cell no_frame 0 [])
+view_at cells r = slice_index_or cells r (new_cell no_frame 0)
 
 -- ---- the frames, all together
 
@@ -85,8 +86,10 @@ abbrev pub CopiesWant : Bool → (ℕ → ℕ → List ℕ) → CoreView → Wan
 CopiesWant tells files v want bytes = AsWanted tells files (door_of v 0) want bytes
 
 -- the state of a new core over these frames
-abbrev pub first_state : {F : Type 0} → Config → (F → Bool) → (F → List ℕ) → List F → ℕ → State
-first_state config tells bytes frames actors = new_state config (list_all tells frames) (map (λ f. if list_all tells frames then bytes f else []) frames) actors
+abbrev pub first_state : {F : Type 0} → Config → (F → FrameView) → List F → ℕ → State
+first_state config view frames actors =
+    let told = list_all (λ f. (view f).tells) frames in
+    new_state config told (map (λ f. if told then (view f).bytes else []) frames) actors
 
 abbrev pub tally_of : PolicyView → Tally4
 tally_of p = record { evictions = p.evictions; promotions = p.promotions; demotions = p.demotions; listed = mapped_len p }

@@ -1,12 +1,12 @@
 -- What no call changes, over several calls.
-use Rattle.std.specs.Prelude.{◌≡◌, ◌<◌, ℕ, Bool, List, length, Some, IfSome, refl}
+use Rattle.std.specs.Prelude.{◌≡◌, ℕ, Some, refl}
 use Rattle.std.proofs.Common.{◌∙◌, sym, subst}
 use Rattle.std.proofs.Math.Nat.{le_refl, le_trans}
 use Rattle.cache_policy.specs.Policy.{PolicyView}
 use Rattle.cache_door.specs.Counters.{CountersRisen, counters_same, counters_on}
 use Rattle.cache_door.specs.Machine.{State, is_gone}
-use Rattle.cache_door.specs.Doors.{Grown, DoorLater, Agrees}
-use Rattle.cache_door.specs.Cores.{CoreView, state_of, all_faults, IsKept, Later, door_of}
+use Rattle.cache_door.specs.Doors.{Grown, DoorLater}
+use Rattle.cache_door.specs.Cores.{CoreView, state_of, all_faults, Later, door_of}
 
 pub later_same : (x : CoreView) → Later x x
 later_same x = record { config = refl; actors = refl; tell = refl; steady = refl; faults = le_refl (all_faults x.cells); stands = λ t. refl; counters = counters_same x.policy }
@@ -25,7 +25,7 @@ later_on {x} {y} {z} a b = record {
 some_is : {s t : State} → Some s ≡ Some t → s ≡ t
 some_is e = cc
 
--- what a door of a core tells of it later, and at rest
+-- what a door of a core tells of it later
 pub door_later : (x y : CoreView) (a b : ℕ) → b ≡ a → Later x y → Grown (is_gone (state_of x)) (is_gone (state_of y)) → DoorLater (door_of x a) (door_of y b)
 door_later x y a b same later grown = record {
   config = later.config;
@@ -40,6 +40,3 @@ door_later x y a b same later grown = record {
       let Q : State → Type 0 = λ q. CountersRisen x.policy q.policy in
       subst P (some_is e) (subst Q (some_is f) later.counters);
 }
-
-pub door_agrees : (tells : Bool) (files : ℕ → ℕ → List ℕ) (x : CoreView) (a : ℕ) → a < length x.holds → IsKept tells files x → IfSome (door_of x a).state (Agrees tells files (door_of x a))
-door_agrees tells files x a seated kept = record { good = kept.good; config = refl; told = refl; actor = seated; hold = refl; gone = λ m. (refl, refl) }

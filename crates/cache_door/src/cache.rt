@@ -70,11 +70,11 @@ impl<A: Archive + Drop, F: Frame + Drop> Core<A, F> {
     ) -> Result<Core<A, F>, AllocError>
         requires config { IsConfig config.now }
         requires count { length frames.items ≡ config.now.regions }
-        requires sizes { All (λ f. F.size f ≡ config.now.region) frames.items }
+        requires sizes { All (λ f. (F.view f).size ≡ config.now.region) frames.items }
         requires actors { (0 < actors) × (actors < 65) }
-        ensures state { IfOk result (λ c. state_of c ≡ first_state config.now F.tells F.bytes frames.items actors) }
-        ensures steady { IfOk result (λ c. all_steady c.cells ≡ list_all F.steady frames.items) }
-        ensures faults { IfOk result (λ c. all_faults c.cells ≡ total F.faults frames.items) }
+        ensures state { IfOk result (λ c. state_of c ≡ first_state config.now F.view frames.items actors) }
+        ensures steady { IfOk result (λ c. all_steady c.cells ≡ list_all (λ f. (F.view f).steady) frames.items) }
+        ensures faults { IfOk result (λ c. all_faults c.cells ≡ total (λ f. (F.view f).faults) frames.items) }
         ensures work { IfOk result (λ c. c.work ≡ no_work) }
     {
         let policy = Policy::new(alloc, config)?;
@@ -134,9 +134,8 @@ impl<A: Archive + Drop, F: Frame + Drop> Core<A, F> {
         self.work.rest();
     }
 
-    /// What the actor holds, as tests ask.
-    #[cfg(test)]
-    pub(crate) fn hold_of(&self, actor: u32) -> Option<Hold>
+    /// What the actor holds, or None: the conditions of the calls of its door can be tested by it.
+    pub fn hold_of(&self, actor: u32) -> Option<Hold>
         requires { actor < length self.now.holds }
         ensures { result ≡ hold_at (state_of self.now) actor }
     {

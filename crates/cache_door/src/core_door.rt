@@ -1,10 +1,9 @@
 //! One actor's door of a core.
 
 ghost use Rattle.std.specs.Prelude.{◌≡◌, ◌<◌, length};
-ghost use Rattle.blob_parts.specs.Content.{content};
 ghost use Rattle.cache_door.specs.Machine.{is_gone};
 ghost use Rattle.cache_door.specs.Doors.{DoorView, Grown};
-ghost use Rattle.cache_door.specs.Cores.{state_of, door_of, IsKept, Later};
+ghost use Rattle.cache_door.specs.Cores.{state_of, door_of, Later};
 
 use crate::answers::{Entered, Glance, Want};
 use crate::cache::Core;
@@ -20,7 +19,6 @@ pub struct CoreDoor<'a, A: Archive, F: Frame> {
     core: &'a mut Core<A, F>,
     actor: u32,
     ghost seated: { actor < length core.now.holds },
-    ghost kept: { IsKept A.tells (content A.blobs) core.now },
 }
 
 impl<'a, A: Archive + Drop, F: Frame + Drop> CoreDoor<'a, A, F> {
@@ -46,7 +44,7 @@ pub fn core_crosses<A: Archive + Send, F: Frame + Send>() {
 impl<'a, A: Archive + Drop, F: Frame + Drop> CacheDoor<A> for CoreDoor<'a, A, F> {
     ghost use Rattle.std.specs.Prelude.{refl};
     ghost use Rattle.std.proofs.Common.{◌∙◌};
-    ghost use Rattle.cache_door.specs.Stays.{later_same, later_on, door_later, door_agrees};
+    ghost use Rattle.cache_door.specs.Stays.{later_same, later_on, door_later};
 
     ghost view = { λ d. door_of d.core.now d.actor };
 
@@ -54,56 +52,46 @@ impl<'a, A: Archive + Drop, F: Frame + Drop> CacheDoor<A> for CoreDoor<'a, A, F>
         × Grown (is_gone (state_of x.core.now)) (is_gone (state_of y.core.now)) };
 
     fn enter(&mut self, mount: u32, want: &Want, now: u64) -> Result<Entered, AllocError> {
-        let entered = self.core.enter(self.actor, mount, want, now);
-        self.core.lesson();
-        entered
+        self.core.enter(self.actor, mount, want, now)
     }
 
     fn take_bytes(&mut self, out: &mut [u8]) -> Taken {
-        let taken = self.core.take_bytes(self.actor, out);
-        self.core.lesson();
-        taken
+        self.core.take_bytes(self.actor, out)
     }
 
     fn store(&mut self, piece: &Piece<A>) -> Result<(), FrameFault> {
-        let stored = self.core.store(self.actor, piece);
-        self.core.lesson();
-        stored
+        self.core.store(self.actor, piece)
     }
 
     fn fail(&mut self) {
         self.core.fail(self.actor);
-        self.core.lesson();
     }
 
     fn leave(&mut self) {
         self.core.leave(self.actor);
-        self.core.lesson();
     }
 
     fn glance(&mut self, region: u32, want: &Want, out: &mut [u8]) -> Glance {
-        let seen = self.core.glance(region, want, out);
-        self.core.lesson();
-        seen
+        self.core.glance(region, want, out)
     }
 
     fn decay(&mut self, now: u64) {
         self.core.decay(now);
-        self.core.lesson();
     }
 
     fn clear(&mut self, manifest: u32) {
         self.core.clear(manifest);
-        self.core.lesson();
     }
 
     fn live(&mut self, _mount: u32) {
-        self.core.lesson();
         self.core.rest();
     }
 
     fn unmount(&mut self, mount: u32, manifest: u32) {
         self.core.unmount(mount, manifest);
+    }
+
+    fn lesson(&self) {
         self.core.lesson();
     }
 
@@ -112,6 +100,4 @@ impl<'a, A: Archive + Drop, F: Frame + Drop> CacheDoor<A> for CoreDoor<'a, A, F>
     ghost stays_on = { λ x y z a b. (b.0 ∙ a.0, b.1 ∙ a.1, later_on a.2 b.2, λ m h. b.3 m (a.3 m h)) };
 
     ghost later = { λ x y a. door_later x.core.now y.core.now x.actor y.actor a.1 a.2 a.3 };
-
-    ghost at_rest = { λ x. door_agrees A.tells (content A.blobs) x.core.now x.actor x.seated x.kept };
 }

@@ -1,6 +1,6 @@
 //! One actor's way into a cache of regions.
 
-ghost use Rattle.std.specs.Prelude.{◌≡◌, ◌<◌, ◌≤◌, ◌-◌, ℕ, IfSome, IfOk, OnOk, OnErr, IsTrue, length, Ok};
+ghost use Rattle.std.specs.Prelude.{◌≡◌, ◌<◌, ◌≤◌, ◌-◌, ℕ, true, IfSome, IfOk, OnOk, OnErr, IsTrue, length, Ok};
 ghost use Rattle.blob_parts.specs.Content.{content};
 ghost use Rattle.region_cell.specs.declared.taken.Taken.TheVariants as taken;
 ghost use Rattle.cache_door.specs.declared.answers.Glance.TheVariants as glance;
@@ -171,13 +171,14 @@ pub trait CacheDoor<A: Archive> {
         ensures unmounted { (m : ℕ) → (view self.new).unmounted m ≡ with_mount mount (view self.old).unmounted m }
         ensures state { Becomes (view self.old) (view self.new) (λ a. unmount mount manifest) };
 
+    /// What is told of the state of a door between two calls. It does nothing.
+    fn lesson(&self)
+        ensures agrees { IfSome (view self.now).state (Agrees A.tells (content A.blobs) (view self.now)) };
+
     ghost stays_same: { (x : Self) → stays x x };
 
     ghost stays_on: { (x y z : Self) → stays x y → stays y z → stays x z };
 
     /// What every call keeps, in views.
     ghost later: { (x y : Self) → stays x y → DoorLater (view x) (view y) };
-
-    /// What is told of the state of a door between two calls.
-    ghost at_rest: { (x : Self) → IfSome (view x).state (Agrees A.tells (content A.blobs) (view x)) };
 }

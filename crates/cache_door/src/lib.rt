@@ -10,8 +10,6 @@ mod core_door;
 mod door;
 mod hold;
 mod laws;
-#[cfg(test)]
-mod tests;
 mod work;
 
 pub use answers::{Entered, Glance, Want};

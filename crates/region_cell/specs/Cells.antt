@@ -1,5 +1,5 @@
 -- A region's cell: the tag of its key, its tracker, and the bytes of its frame. What a call makes of key and tracker is one equation on a `Region`.
-use Rattle.std.specs.Prelude.{◌≡◌, ◌≢◌, ◌⊎◌, ◌↔◌, ◌<◌, ◌≤◌, ◌+◌, ◌-◌, ◌*◌, ◌/◌, ◌%◌, ◌^◌, ℕ, Bool, true, IsTrue, List, length, slice_get, Option, Some, None}
+use Rattle.std.specs.Prelude.{◌≡◌, ◌≢◌, ◌⊎◌, ◌↔◌, ◌<◌, ◌≤◌, ◌+◌, ◌-◌, ◌*◌, ◌/◌, ◌%◌, ◌^◌, ℕ, Bool, true, IsTrue, List, length, slice_get, Option, Some, None, IfSome}
 use Rattle.region_ranges.specs.declared.ranges.ByteRange.{ByteRange}
 use Rattle.region_ranges.specs.declared.keys.Config.{Config}
 use Rattle.region_ranges.specs.declared.keys.RegionKey.{RegionKey}
@@ -14,7 +14,7 @@ use Rattle.sparse_tracker.specs.ByteStates as byte_states
 use Rattle.sparse_tracker.specs.ByteStates.{ByteState, present, Tracker, TrackerView, claimed_run, new_tracker, has_all, lacks, ticket_of, gap_of, status}
 use Rattle.sparse_tracker.specs.Kept as tracker
 use Rattle.cache_outside.specs.Causes.{Rose}
-use Rattle.cache_outside.specs.Frames.{put_at, SameOutside}
+use Rattle.cache_outside.specs.Frames.{FrameView, put_at, SameOutside}
 use Rattle.blob_parts.specs.Content.{slice_of}
 use Rattle.blob_parts.specs.Pieces.{PieceView}
 use Rattle.region_cell.specs.declared.taken.Taken.{Taken}
@@ -31,6 +31,9 @@ pub record FrameMetadata : Type 0 where
   pub size : ℕ
   pub tells : Bool
   pub steady : Bool
+
+abbrev pub metadata_of : FrameView → FrameMetadata
+metadata_of f = record { faults = f.faults; size = f.size; tells = f.tells; steady = f.steady }
 
 -- all of a cell but its bytes and its room; `range` is the size of the ranges in which it is filled
 pub record CellMetadata : Type 0 where
@@ -50,8 +53,8 @@ tag_at None = free_tag
 tag_at (Some key) = tag_of key
 
 -- what is seen of a cell's parts
-abbrev pub seen : Option RegionKey → TrackerView → FrameMetadata → ℕ → List ℕ → CellView
-seen key t frame range bytes = record { metadata = record { region = record { tag = tag_at key; tracker = t.tracker }; frame = frame; range = range }; bytes = bytes; spare = t.spare }
+abbrev pub seen : Option RegionKey → TrackerView → FrameView → ℕ → CellView
+seen key t frame range = record { metadata = record { region = record { tag = tag_at key; tracker = t.tracker }; frame = metadata_of frame; range = range }; bytes = frame.bytes; spare = t.spare }
 
 -- the ticket of that number, the open gap of that id, and where a ticket stands
 abbrev pub ticket_in : ℕ → CellView → Option Ticket
@@ -64,8 +67,8 @@ abbrev pub status_in : Ticket → CellView → Status
 status_in k c = status k c.metadata.region.tracker
 
 -- a cell without a key, as long as its frame, with all bytes absent
-abbrev pub new_cell : FrameMetadata → ℕ → List ℕ → CellView
-new_cell frame range bytes = record { metadata = record { region = record { tag = free_tag; tracker = new_tracker frame.size }; frame = frame; range = range }; bytes = bytes; spare = 0 }
+abbrev pub new_cell : FrameView → ℕ → CellView
+new_cell frame range = record { metadata = record { region = record { tag = free_tag; tracker = new_tracker frame.size }; frame = metadata_of frame; range = range }; bytes = frame.bytes; spare = 0 }
 
 -- the number of a region's states
 abbrev pub len_of : Region → ℕ
@@ -86,8 +89,9 @@ part_of tag = tag % 2 ^ 28
 abbrev pub region_bytes : (ℕ → ℕ → List ℕ) → ℕ → ℕ → List ℕ
 region_bytes files size tag = slice_of (files (manifest_of tag) (file_of tag)) (part_of tag * size) size
 
-abbrev pub part_length : (ℕ → ℕ → List ℕ) → ℕ → ℕ → ℕ
-part_length files size tag = length (region_bytes files size tag)
+-- where the archive tells, a region of `len` bytes is that part of the file
+abbrev pub IsLength : Bool → (ℕ → ℕ → List ℕ) → ℕ → ℕ → ℕ → Type 0
+IsLength tells files size tag len = IsTrue tells → len ≡ length (region_bytes files size tag)
 
 -- ---- the calls
 
@@ -181,21 +185,32 @@ pub record CopyAnswer (c : CellView) (result : Taken) (k : Ticket) : Type 0 wher
   pub failed : (result ≡ taken.Failed) ↔ (status_in k c ≡ status_of.Failed)
   pub ready : ((result ≡ taken.Copied) ⊎ (result ≡ taken.FrameFault)) ↔ (status_in k c ≡ status_of.Ready)
 
--- where the frame tells, the bytes are the cell's from start to end, and those of its key's region by the content
+-- where the frame tells, the bytes are the cell's from start to end
 abbrev pub CellBytes : CellView → ℕ → ℕ → List ℕ → Type 0
 CellBytes c start end bytes = IsTrue c.metadata.frame.tells → bytes ≡ slice_of c.bytes start (end - start)
 
-abbrev pub ContentBytes : (ℕ → ℕ → List ℕ) → CellView → ℕ → ℕ → List ℕ → Type 0
-ContentBytes files c start end bytes = IsTrue c.metadata.frame.tells → bytes ≡ slice_of (region_bytes files c.metadata.frame.size c.metadata.region.tag) start (end - start)
+-- and where the archive tells too, those of its key's region by the content
+abbrev pub ContentBytes : Bool → (ℕ → ℕ → List ℕ) → CellView → ℕ → ℕ → List ℕ → Type 0
+ContentBytes tells files c start end bytes = IsTrue tells → IsTrue c.metadata.frame.tells → bytes ≡ slice_of (region_bytes files c.metadata.frame.size c.metadata.region.tag) start (end - start)
+
+-- the same for the bytes that a ticket waits for, and for those of a range
+abbrev pub TicketBytes : CellView → ℕ → List ℕ → Type 0
+TicketBytes c n bytes = IfSome (ticket_in n c) (λ k. CellBytes c k.start k.end bytes)
+
+abbrev pub TicketContent : Bool → (ℕ → ℕ → List ℕ) → CellView → ℕ → List ℕ → Type 0
+TicketContent tells files c n bytes = IfSome (ticket_in n c) (λ k. ContentBytes tells files c k.start k.end bytes)
+
+abbrev pub RangeContent : Bool → (ℕ → ℕ → List ℕ) → CellView → ByteRange → List ℕ → Type 0
+RangeContent tells files c sub bytes = ContentBytes tells files c sub.start sub.end bytes
 
 -- a piece was stored at the present end of the gap with this id: the gap moved behind it, and where the frame tells the bytes are there
 pub record Stored (id : ℕ) (piece : List ℕ) (before now : CellView) (g : OpenGap) : Type 0 where
   pub region : now.metadata.region ≡ progress id (g.upto + length piece) before.metadata.region
   pub bytes : IsTrue before.metadata.frame.tells → now.bytes ≡ put_at g.upto piece before.bytes
 
--- n bytes at the gap's present end may be anything where the frame tells, and all others stand
-abbrev pub Unstored : ℕ → CellView → CellView → OpenGap → Type 0
-Unstored n before now g = IsTrue before.metadata.frame.tells → SameOutside g.upto n before.bytes now.bytes
+-- where the frame tells, the piece's bytes at the gap's present end may be anything, and all others stand
+abbrev pub Unstored : List ℕ → CellView → CellView → OpenGap → Type 0
+Unstored piece before now g = IsTrue before.metadata.frame.tells → SameOutside g.upto (length piece) before.bytes now.bytes
 
 -- ---- what is true of every cell
 
