@@ -1,8 +1,8 @@
 use Rattle.std.proofs.Common.{rules, ◌≡◌, false, length, refl}
 use Rattle.std.specs.Prelude.{◌||◌}
 use Rattle.directory_input.specs.Reads.{Read}
-use Rattle.cache_reader.specs.Parts.{line}
-use Rattle.cache_reader.specs.Alone.{went_read}
+use Rattle.cache_reader.specs.Parts.{read_setting}
+use Rattle.cache_reader.specs.Alone.{read_outcome}
 use Rattle.cache_reader.specs.Going.{is_memory, moment}
 use Rattle.cache_reader.proofs.Through.{exactly_counted, read_calmly, read_through}
 use Rattle.cache_reader.proofs.reader.Reader.read.Goals as goal
@@ -21,12 +21,12 @@ returns-in-Ok-clause-exact g c = rw c.new-report.ensures at c.in-Ok.ensures.exac
 
 pub returns-in-Ok-clause-goes_exactly : goal.returns-in-Ok-clause-goes_exactly
 returns-in-Ok-clause-goes_exactly g c =
-    let l = (line g.A.Archive.tells g.A.Archive.blobs c.args.self.now.table.now c.args.self.now.setting) in
+    let l = (read_setting g.A.Archive.tells g.A.Archive.blobs c.args.self.now.table.now c.args.self.now.setting) in
     let read : Read = record { file = c.args.file; at = c.args.at; size = length c.args.out.now } in
-    exactly_counted l (went_read l (g.D.CacheDoor.actor c.args.self.now.door.now) read) false _ c.read_parts-answer.new.report _ (moment (g.S.BlobSource.faults c.args.self.now.source.now) (g.S.BlobSource.taken c.args.self.now.source.now) (g.D.CacheDoor.frame_faults c.args.self.now.door.now) (g.D.CacheDoor.seen_gone c.args.self.now.door.now) (g.D.CacheDoor.unmounted c.args.self.now.door.now) (g.D.CacheDoor.work c.args.self.now.door.now) (g.D.CacheDoor.state c.args.self.now.door.now)) (moment (g.S.BlobSource.faults c.read_parts-answer.new.source) (g.S.BlobSource.taken c.read_parts-answer.new.source) (g.D.CacheDoor.frame_faults c.read_parts-answer.new.door) (g.D.CacheDoor.seen_gone c.read_parts-answer.new.door) (g.D.CacheDoor.unmounted c.read_parts-answer.new.door) (g.D.CacheDoor.work c.read_parts-answer.new.door) (g.D.CacheDoor.state c.read_parts-answer.new.door)) c.add.ensures (rw c.new-report.ensures at c.in-Ok.ensures.exact)
+    exactly_counted l (read_outcome l (g.D.CacheDoor.view c.args.self.now.door.now).actor read) false _ c.read_parts-answer.new.report _ (moment (g.S.BlobSource.view c.args.self.now.source.now) (g.D.CacheDoor.view c.args.self.now.door.now)) (moment (g.S.BlobSource.view c.read_parts-answer.new.source) (g.D.CacheDoor.view c.read_parts-answer.new.door)) c.add.ensures (rw c.new-report.ensures at c.in-Ok.ensures.exact)
 
 pub returns-after-self-clause-goes_exactly : goal.returns-after-self-clause-goes_exactly
 returns-after-self-clause-goes_exactly g c =
-    let l = (line g.A.Archive.tells g.A.Archive.blobs c.args.self.now.table.now c.args.self.now.setting) in
+    let l = (read_setting g.A.Archive.tells g.A.Archive.blobs c.args.self.now.table.now c.args.self.now.setting) in
     let read : Read = record { file = c.args.file; at = c.args.at; size = length c.args.out.now } in
-    exactly_counted l (went_read l (g.D.CacheDoor.actor c.args.self.now.door.now) read) _ _ c.read_parts-answer.new.report _ (moment (g.S.BlobSource.faults c.args.self.now.source.now) (g.S.BlobSource.taken c.args.self.now.source.now) (g.D.CacheDoor.frame_faults c.args.self.now.door.now) (g.D.CacheDoor.seen_gone c.args.self.now.door.now) (g.D.CacheDoor.unmounted c.args.self.now.door.now) (g.D.CacheDoor.work c.args.self.now.door.now) (g.D.CacheDoor.state c.args.self.now.door.now)) (moment (g.S.BlobSource.faults c.read_parts-answer.new.source) (g.S.BlobSource.taken c.read_parts-answer.new.source) (g.D.CacheDoor.frame_faults c.read_parts-answer.new.door) (g.D.CacheDoor.seen_gone c.read_parts-answer.new.door) (g.D.CacheDoor.unmounted c.read_parts-answer.new.door) (g.D.CacheDoor.work c.read_parts-answer.new.door) (g.D.CacheDoor.state c.read_parts-answer.new.door)) c.add.ensures (rw c.new-report.ensures at c.in-Err.ensures.exact)
+    exactly_counted l (read_outcome l (g.D.CacheDoor.view c.args.self.now.door.now).actor read) _ _ c.read_parts-answer.new.report _ (moment (g.S.BlobSource.view c.args.self.now.source.now) (g.D.CacheDoor.view c.args.self.now.door.now)) (moment (g.S.BlobSource.view c.read_parts-answer.new.source) (g.D.CacheDoor.view c.read_parts-answer.new.door)) c.add.ensures (rw c.new-report.ensures at c.in-Err.ensures.exact)

@@ -1,4 +1,4 @@
--- An archive for the tests of this crate: one manifest, and the blobs of its files.
+-- An archive that tells: one manifest, and the blobs of its files.
 use Rattle.std.specs.Prelude.{ℕ, List, [], ◌∷◌, codes, length, ◌<◌, ◌≤◌, ◌^◌, ◌≡◌, true, refl}
 use Rattle.std.proofs.Common.{arith}
 use Rattle.cache_outside.specs.Listing.{Listing, manifests, names_differ}

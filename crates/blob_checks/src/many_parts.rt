@@ -1,4 +1,4 @@
-// A source of the tests with as many parts as are asked.
+// A source with as many parts as are asked.
 ghost use Rattle.std.specs.Prelude.{None};
 
 use cache_outside::{BlobSource, OutError, Untold};
@@ -8,11 +8,7 @@ use cache_outside::{BlobSource, OutError, Untold};
 pub struct OneByteParts;
 
 impl BlobSource<Untold> for OneByteParts {
-    ghost faults = { λ _. 0 };
-
-    ghost taken = { λ _. None };
-
-    ghost which = { λ _. 0 };
+    ghost view = { λ _. record { identity = 0; faults = 0; reads = None } };
 
     fn find(&mut self, name: &str) -> Result<Option<u32>, OutError> {
         match name.strip_prefix("__a.part") {

@@ -1,5 +1,5 @@
-use Rattle.blob_parts.specs.Example.{example}
-use Rattle.blob_parts.proofs.tests.example_blobs.Goals as goal
+use Rattle.blob_checks.specs.Example.{example}
+use Rattle.blob_checks.proofs.example.example_blobs.Goals as goal
 
 pub returns : goal.returns
 unfolding example
