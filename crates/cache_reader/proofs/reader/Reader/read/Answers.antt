@@ -1,32 +1,34 @@
-use Rattle.std.proofs.Common.{rules, ◌≡◌, false, length, refl}
+use Rattle.std.proofs.Common.{rules, ◌≡◌, ◌∙◌, false, length, refl, ap}
 use Rattle.std.specs.Prelude.{◌||◌}
 use Rattle.directory_input.specs.Reads.{Read}
-use Rattle.cache_reader.specs.Parts.{line}
-use Rattle.cache_reader.specs.Alone.{went_read}
+use Rattle.cache_reader.specs.Parts.{read_setting}
+use Rattle.cache_reader.specs.Reader.{ReaderView}
+use Rattle.cache_reader.specs.Onward.{files_kept}
 use Rattle.cache_reader.specs.Going.{is_memory, moment}
-use Rattle.cache_reader.proofs.Through.{exactly_counted, read_calmly, read_through}
+use Rattle.cache_reader.proofs.Through.{read_calmly, read_through, reported, caused_marked, read_cause}
 use Rattle.cache_reader.proofs.reader.Reader.read.Goals as goal
 
-pub returns-after-self-clause-reads : goal.returns-after-self-clause-reads
-returns-after-self-clause-reads g c =
-    let marks : (c.args.self.now.wanted || is_memory c.read_parts-answer.result) ≡ c.if-self.self = search rules in
-    rw (← marks) (read_through _ c.args.file c.args.at (length c.args.out.now) _ _ _ _ _ _ _ _ c.requires.file c.requires.inside (rw c.new-report.ensures at c.read_parts-answer.ensures.part) c.add.ensures)
+pub returns-in-Ok-clause-goes : goal.returns-in-Ok-clause-goes
+returns-in-Ok-clause-goes g c = (
+  refl,
+  refl,
+  refl,
+  refl,
+  c.read_parts-answer.ensures.stays,
+  c.read_parts-answer.ensures.hold,
+  read_calmly _ _ c.args.file c.args.at (length c.args.out.now) _ false _ _ _ _ _ _ c.requires.file c.requires.inside c.read_parts-answer.ensures.reached
+  (rw c.new-report.ensures at c.in-Ok.ensures.part) c.add.ensures (rw c.new-report.ensures at c.in-Ok.ensures.exact) (rw c.new-report.ensures at c.in-Ok.ensures.entries) refl,
+)
 
-pub returns-in-Ok-clause-reads : goal.returns-in-Ok-clause-reads
-returns-in-Ok-clause-reads g c =
-    read_calmly _ c.args.file c.args.at (length c.args.out.now) _ _ _ _ _ _ _ _ c.requires.file c.requires.inside (rw c.new-report.ensures at c.in-Ok.ensures.part) c.add.ensures refl
-
-pub returns-in-Ok-clause-exact : goal.returns-in-Ok-clause-exact
-returns-in-Ok-clause-exact g c = rw c.new-report.ensures at c.in-Ok.ensures.exact
-
-pub returns-in-Ok-clause-goes_exactly : goal.returns-in-Ok-clause-goes_exactly
-returns-in-Ok-clause-goes_exactly g c =
-    let l = (line g.A.Archive.tells g.A.Archive.blobs c.args.self.now.table.now c.args.self.now.setting) in
-    let read : Read = record { file = c.args.file; at = c.args.at; size = length c.args.out.now } in
-    exactly_counted l (went_read l (g.D.CacheDoor.actor c.args.self.now.door.now) read) false _ c.read_parts-answer.new.report _ (moment (g.S.BlobSource.faults c.args.self.now.source.now) (g.S.BlobSource.taken c.args.self.now.source.now) (g.D.CacheDoor.frame_faults c.args.self.now.door.now) (g.D.CacheDoor.seen_gone c.args.self.now.door.now) (g.D.CacheDoor.unmounted c.args.self.now.door.now) (g.D.CacheDoor.work c.args.self.now.door.now) (g.D.CacheDoor.state c.args.self.now.door.now)) (moment (g.S.BlobSource.faults c.read_parts-answer.new.source) (g.S.BlobSource.taken c.read_parts-answer.new.source) (g.D.CacheDoor.frame_faults c.read_parts-answer.new.door) (g.D.CacheDoor.seen_gone c.read_parts-answer.new.door) (g.D.CacheDoor.unmounted c.read_parts-answer.new.door) (g.D.CacheDoor.work c.read_parts-answer.new.door) (g.D.CacheDoor.state c.read_parts-answer.new.door)) c.add.ensures (rw c.new-report.ensures at c.in-Ok.ensures.exact)
-
-pub returns-after-self-clause-goes_exactly : goal.returns-after-self-clause-goes_exactly
-returns-after-self-clause-goes_exactly g c =
-    let l = (line g.A.Archive.tells g.A.Archive.blobs c.args.self.now.table.now c.args.self.now.setting) in
-    let read : Read = record { file = c.args.file; at = c.args.at; size = length c.args.out.now } in
-    exactly_counted l (went_read l (g.D.CacheDoor.actor c.args.self.now.door.now) read) _ _ c.read_parts-answer.new.report _ (moment (g.S.BlobSource.faults c.args.self.now.source.now) (g.S.BlobSource.taken c.args.self.now.source.now) (g.D.CacheDoor.frame_faults c.args.self.now.door.now) (g.D.CacheDoor.seen_gone c.args.self.now.door.now) (g.D.CacheDoor.unmounted c.args.self.now.door.now) (g.D.CacheDoor.work c.args.self.now.door.now) (g.D.CacheDoor.state c.args.self.now.door.now)) (moment (g.S.BlobSource.faults c.read_parts-answer.new.source) (g.S.BlobSource.taken c.read_parts-answer.new.source) (g.D.CacheDoor.frame_faults c.read_parts-answer.new.door) (g.D.CacheDoor.seen_gone c.read_parts-answer.new.door) (g.D.CacheDoor.unmounted c.read_parts-answer.new.door) (g.D.CacheDoor.work c.read_parts-answer.new.door) (g.D.CacheDoor.state c.read_parts-answer.new.door)) c.add.ensures (rw c.new-report.ensures at c.in-Err.ensures.exact)
+pub returns-after-self-clause-goes : goal.returns-after-self-clause-goes
+returns-after-self-clause-goes g c =
+    let marks : (c.args.self.now.out_of_memory || is_memory c.read_parts-answer.result) ≡ c.if-self.self = search rules in (
+      refl,
+      refl,
+      refl,
+      refl,
+      c.read_parts-answer.ensures.stays,
+      c.read_parts-answer.ensures.hold,
+      rw (← marks) (read_through _ _ c.args.file c.args.at (length c.args.out.now) _ _ _ _ _ _ _ _ c.requires.file c.requires.inside c.read_parts-answer.ensures.reached
+          (rw c.new-report.ensures at c.read_parts-answer.ensures.part) c.add.ensures (rw c.new-report.ensures at c.read_parts-answer.ensures.exact) (rw c.new-report.ensures at c.read_parts-answer.ensures.entries)),
+    )

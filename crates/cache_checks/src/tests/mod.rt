@@ -1,0 +1,6 @@
+mod another_length;
+mod cell;
+mod door;
+mod faulty;
+mod rows;
+mod sample;
