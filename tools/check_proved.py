@@ -5,7 +5,8 @@ In a table of docs/PROVED.md, and of each crates/NAME/README.md with a column 'c
 
   clause   `crate::Type::call (clause, clause)`: the function or trait method has an `ensures` clause of each name;
            `ensures` alone is a clause without a name. In a crate's own page the crate may be left out, and the
-           calls may stand in a column 'call' of their own, each clause being one of some call named there
+           calls may stand in a column 'call' of their own, each clause being one of some call named there;
+           a trait stands for all its calls, and for its laws
   edit     `crate/edit`: crates/crate/must-fail/edit.edit is there
   test     `crate::test`: a #[test] function; `crate/proofs/File`: a file of worked examples that the prover computes;
            `crate/stdout`: the program's stored run; `tools/file.py`: tests of a tool
@@ -36,15 +37,22 @@ def owner_of(line):
 
 def functions_of(file):
     """The functions of one source file."""
-    found, owner, test = [], set(), False
+    found, owner, test, trait = [], set(), False, None
     lines = file.read_text(encoding="utf-8").split("\n")
     at = 0
     while at < len(lines):
         line = lines[at]
         if owner_of(line) is not None:
             owner = owner_of(line)
+            named = re.match(r"^(?:pub )?trait ([A-Za-z0-9_]+)", line)
+            if named:
+                trait = Function(owner, named.group(1), set(), False)
+                found.append(trait)
         elif re.match(r"^\}", line):
-            owner = set()
+            owner, trait = set(), None
+        law = re.match(r"^\s+ghost ([a-z0-9_]+): \{", line)
+        if law and trait:
+            trait.clauses.add(law.group(1))
         if line.strip() == "#[test]":
             test = True
         name = re.match(r"^\s*(?:pub(?:\([a-z]+\))? )?(?:unsafe )?(?:const )?fn ([a-z0-9_]+)", line)
@@ -59,6 +67,8 @@ def functions_of(file):
                     break
                 at += 1
             found.append(Function(owner, name.group(1), clauses, test))
+            if trait:
+                trait.clauses |= clauses
             test = False
         at += 1
     return found
@@ -142,7 +152,8 @@ def check(repository, page, crate):
             wrong.append(f"{page.relative_to(TOP)}:{number}: `{name}`: {lack}")
 
     def whole(path):
-        return path if path.split("::")[0] in repository.functions or not crate else f"{crate}::{path}"
+        named = "::" in path and path.split("::")[0] in repository.functions
+        return path if named or not crate else f"{crate}::{path}"
 
     for number, row in rows_of(page):
         if "call" in row:
