@@ -1,3 +1,4 @@
+// Counts of how many sets hold each document.
 ghost use Rattle.std.specs.Prelude.{◌≡◌, ◌+◌, ◌<◌, ◌≤◌, ◌^◌, true, false, length, map, replicate, nat_le, IfOk};
 ghost use Rattle.doc_bits.specs.Places.{zip_with};
 ghost use Rattle.doc_bits.specs.Counts.{Counted, counted};

@@ -26,7 +26,8 @@ struct TermWords<'w> {
 }
 
 fn term_of(words: &[String]) -> Option<TermWords<'_>>
-    ensures { option_map (λ w. record { manifest = w.manifest.now; field = w.field.now; term = w.term.now }) result ≡ term_words (texts words.now) }
+    ensures { option_map (λ w. record { manifest = w.manifest.now; field = w.field.now; term = w.term.now }) result
+        ≡ term_words (texts words.now) }
 {
     match words {
         [command, manifest, field, term] => {
@@ -86,8 +87,8 @@ pub fn mount_tool<A: Archive, S: BlobSource<A> + Drop, K: Sink>(
     ensures usage { is_usage (term_words (texts words.now)) (length sources.items) ≡ true
         → IsUsageRun (K.view sink.old) (K.view sink.new) result.status }
     ensures term { (t : Term) → term_words (texts words.now) ≡ Some t → 0 < length sources.items
-        → IsTermRun A.tells A.blobs t (count_of (λ s. (S.view s).faults) sources.items 0) (count_of (λ s. (S.view s).faults) result.sources.items 0)
-        (K.view sink.old) (K.view sink.new) result.status }
+        → IsTermRun A.tells A.blobs t (count_of (λ s. (S.view s).faults) sources.items 0)
+        (count_of (λ s. (S.view s).faults) result.sources.items 0) (K.view sink.old) (K.view sink.new) result.status }
 
     // The sources come back in number and order, and only the first one was read.
     ensures sources { map (λ s. (S.view s).identity) result.sources.items ≡ map (λ s. (S.view s).identity) sources.items }

@@ -52,7 +52,8 @@ fn shown_of(alloc: Global, shard: &Manifest, hits: &HitList) -> Result<Shown, Al
 /// The line of these hits.
 pub(crate) fn found_line(alloc: Global, shard: &Manifest, hits: &Hits) -> Line
     requires { All (IsHitOf shard.now.segments) hits.now.list }
-    ensures { IsAllowed true (Line.Hits hits.now.total (map (named shard.now.segments) (map pair_of hits.now.list))) 0 0 result }
+    ensures { IsAllowed true
+        (Line.Hits hits.now.total (map (named shard.now.segments) (map pair_of hits.now.list))) 0 0 result }
 {
     match shown_of(alloc, shard, &hits.list) {
         Ok(shown) => Line::Hits {
@@ -83,7 +84,8 @@ fn shard_line<A: Archive, S: BlobSource<A>>(
     value: &str,
 ) -> Line
     requires { length table.now.files ≡ length shard.now.files }
-    ensures allowed { IsAllowed A.tells (hits_line shard.now (hits (content A.blobs table.now.number) (term field.now value.now) shard.now.segments))
+    ensures allowed { IsAllowed A.tells
+        (hits_line shard.now (hits (content A.blobs table.now.number) (term field.now value.now) shard.now.segments))
         (S.view source.old).faults (S.view source.new).faults result }
     ensures same { (S.view source.new).identity ≡ (S.view source.old).identity }
 {
@@ -112,7 +114,8 @@ fn manifest_line<A: Archive, S: BlobSource<A>>(
 ) -> Line
     requires small { number < 65536 }
     requires told { IsTrue A.tells → manifest_at A.blobs number ≡ Ok manifest.now }
-    ensures allowed { IsAllowed A.tells (facts_line field.now value.now A.blobs number manifest.now) (S.view source.old).faults (S.view source.new).faults result }
+    ensures allowed { IsAllowed A.tells (facts_line field.now value.now A.blobs number manifest.now)
+        (S.view source.old).faults (S.view source.new).faults result }
     ensures same { (S.view source.new).identity ≡ (S.view source.old).identity }
 {
     match resolve::<A, S>(alloc, source, number, manifest) {
@@ -146,7 +149,8 @@ pub(crate) fn term_line<A: Archive, S: BlobSource<A>>(
     field: &str,
     value: &str,
 ) -> Line
-    ensures allowed { IsAllowed A.tells (expected_line A.blobs (record { manifest = manifest.now; field = field.now; term = value.now }))
+    ensures allowed { IsAllowed A.tells
+        (expected_line A.blobs (record { manifest = manifest.now; field = field.now; term = value.now }))
         (S.view source.old).faults (S.view source.new).faults result }
     ensures same { (S.view source.new).identity ≡ (S.view source.old).identity }
 {

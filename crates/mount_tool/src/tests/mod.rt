@@ -12,4 +12,3 @@ pub(crate) fn words_of(alloc: Global, words: &[&str]) -> Result<Vec<String>, All
     }
     Ok(list)
 }
-
