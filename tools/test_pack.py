@@ -742,7 +742,7 @@ class Lines(PackTest):
         said = io.StringIO()
         with redirect_stdout(io.StringIO()), redirect_stderr(said), mock.patch.object(archive.Progress, "SECONDS", 0):
             pack.main(["lucene", INDEX, self.out, "--name", "z"])
-        self.assertIn("pack: _0.pst: 1411 of 1411 bytes checked\n", said.getvalue())
+        self.assertIn("pack: _0.pst is copied\n", said.getvalue())
 
 
 def main(words):
