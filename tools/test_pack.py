@@ -159,6 +159,10 @@ class PackTest(unittest.TestCase):
         self.addCleanup(room.cleanup)
         self.room = room.name
         self.out = os.path.join(self.room, "out")
+        # a slow machine says nothing of how far it is
+        quiet = mock.patch.object(archive.Progress, "SECONDS", 3600)
+        quiet.start()
+        self.addCleanup(quiet.stop)
 
     def run_pack(self, *words):
         """The status of the tool for these words, what it printed, and what it said on standard error."""
@@ -186,9 +190,9 @@ class PackTest(unittest.TestCase):
             file.write(data if isinstance(data, bytes) else data.encode())
         return path
 
-    def index(self, name="index"):
+    def index(self):
         """A copy of the small index."""
-        return shutil.copytree(INDEX, os.path.join(self.room, name))
+        return shutil.copytree(INDEX, os.path.join(self.room, "index"))
 
     def search(self, folder, manifest, field, term):
         """What the program writes for a term."""
