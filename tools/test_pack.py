@@ -464,6 +464,18 @@ class Lucene(PackTest):
         self.change(index, "_1.scf", b"  filename: _1.pst\n    start: 1853", b"  filename: _1.pst\n    start: 9853")
         self.refuse("lucene", index, self.out, "--name", "b", why="_1.scf: the file _1.pst does not lie in it")
 
+    def test_old_form(self):
+        """the list of segments as Lucene 8.0 to 8.5 wrote it, without the ids of the segments' states"""
+        index = self.index()
+        with open(os.path.join(index, "segments_3"), "rb") as file:
+            data = file.read()
+        data = data.replace(b"segments\0\0\0\x0a", b"segments\0\0\0\x09")
+        data, count = re.subn(rb"(?s)(SimpleText.{32})\x01.{16}", rb"\1", data)
+        self.assertEqual(count, 2)
+        self.write("index/segments_3", data[:-8] + struct.pack(">q", zlib.crc32(data[:-8])))
+        self.pack("lucene", index, self.out, "--name", "a")
+        self.check_bytes(self.out, "a", INDEX)
+
     def test_no_postings(self):
         """a segment none of whose fields is searched has an empty text of postings"""
         index = self.index()
