@@ -14,8 +14,9 @@ from packing.texts import LONGEST, escape
 DOCS_PER_SEGMENT = 50_000
 # A segment ends too once its postings take about this many bytes of memory.
 _MOST_HELD = 128 << 20
-# What a term takes beside its postings, about.
+# What a term and a field take beside that, about.
 _TERM_COST = 250
+_FIELD_COST = 1_000
 
 _ASCII_TERM = re.compile(r"[A-Za-z0-9]+")
 # The lines of a term that stands once, by its position.
@@ -131,7 +132,7 @@ class _Segment:
             if head is None:
                 name = _checked(b"    name %s\n" % escape(field.encode()))
                 head = self._fields[field] = b"  field %d\n%s" % (len(self._fields), name)
-                self.held += 2 * len(name) + _TERM_COST
+                self.held += 2 * len(name) + _FIELD_COST
             kind, text = stored_value(value)
             lines.append(b"%s    type %s\n" % (head, kind.encode()))
             lines.append(_checked(b"    value %s\n" % escape(text.encode())))
@@ -159,7 +160,7 @@ class _Segment:
         stored = self._archive.end_file(self._name + ".fld", self._stored)
         postings = self._archive.begin_file(self._name + ".pst")
         for field in sorted(self._postings):
-            postings.write(_checked(b"field %s\n" % escape(field.encode())))
+            postings.write(b"field %s\n" % escape(field.encode()))
             of_field = self._postings[field]
             for term in sorted(of_field):
                 postings.write(b"  term %s\n" % term.encode())

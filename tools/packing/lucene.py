@@ -14,8 +14,8 @@ from packing.archive import base36, check_limit, parts_of
 
 _HEADER = 0x3FD76C17
 _FOOTER = 0xC02893E8
-# The forms of a segments file that Lucene 8 writes or reads: of Lucene 7.0, 7.2, 7.4 and 8.6.
-_LEAST_FORM, _COUNTER_IS_SHORT, _HAS_SOFT_DELETES, _HAS_IDS = 7, 8, 9, 10
+# The forms of a segments file that Lucene 8 writes: since 8.0, and since 8.6, where segments have an id of their own.
+_OLD_FORM, _NEW_FORM = 9, 10
 _SEGMENT_NAME = re.compile(r"_[0-9a-z]{1,13}")
 _PIECE = 1 << 20
 
@@ -94,17 +94,13 @@ def read_commit(index: str) -> List[_Commit]:
     version = [source.variable() for _ in range(3)]
     if version[0] != 8:
         raise Refused(_OTHER_VERSION % (name, ".".join(map(str, version))))
-    source.variable()
-    source.int64()
-    if form < _COUNTER_IS_SHORT:
-        source.int32()
-    else:
-        source.variable()
+    source.variable()  # the major version that made the index
+    source.int64()  # how often the index has changed
+    source.variable()  # the number of the next segment's name
     count = source.int32()
     check_limit("segments", count, MOST_SEGMENTS)
-    # the least version of Lucene that wrote a segment
     for _ in range(3 if count > 0 else 0):
-        source.variable()
+        source.variable()  # the least version that wrote a segment
     return [_read_segment(source, form) for _ in range(count)]
 
 
@@ -112,28 +108,27 @@ def _read_header(source: _Bytes) -> int:
     if source.int32() != _HEADER or source.text() != "segments":
         raise Refused("%s is no segments file of Lucene 8" % source.name)
     form = source.int32()
-    if not _LEAST_FORM <= form <= _HAS_IDS:
+    if form not in (_OLD_FORM, _NEW_FORM):
         raise Refused("%s has the form %d, which Lucene 8 does not write" % (source.name, form))
-    source.take(16)
-    source.take(source.take(1)[0])
+    source.take(16)  # the commit's id
+    source.take(source.take(1)[0])  # its generation
     return form
 
 
 def _read_segment(source: _Bytes, form: int) -> _Commit:
     name = source.text()
-    source.take(16)
+    source.take(16)  # its id
     codec = source.text()
     live_generation = source.int64()
-    source.int32()
-    source.int64()
-    source.int64()
-    if form >= _HAS_SOFT_DELETES:
-        source.int32()
-    if form >= _HAS_IDS and source.take(1)[0] == 1:
-        source.take(16)
-    source.skip_texts()
+    source.int32()  # how many documents were deleted
+    source.int64()  # the generation of field infos
+    source.int64()  # the generation of doc values
+    source.int32()  # how many documents were deleted softly, which a search finds
+    if form == _NEW_FORM and source.take(1)[0] == 1:
+        source.take(16)  # the id of this state of the segment
+    source.skip_texts()  # the files of field infos
     for _ in range(source.int32()):
-        source.int32()
+        source.int32()  # a field whose doc values were changed, and its files
         source.skip_texts()
     if not _SEGMENT_NAME.fullmatch(name):
         raise Refused("%s has a segment whose name is none of Lucene's: %r" % (source.name, name))

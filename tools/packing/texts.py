@@ -12,6 +12,8 @@ LONGEST = 16_777_216
 GREATEST = 2_147_483_647
 
 _ESCAPED = re.compile(rb"\\(.)", re.DOTALL)
+# What tells the form of a line: blanks, a word and one blank, or END alone.
+_FORM = re.compile(rb" *[A-Za-z]+ |END\Z")
 _TO_ESCAPE = re.compile(rb"([\n\\])")
 
 
@@ -35,7 +37,7 @@ def _is_newline_taken(chunk: bytes) -> bool:
 def read_line(stream: BinaryIO) -> Optional[bytes]:
     """The next line with its newline: no bytes at the end of the text, None where the line is cut off or too long."""
     chunk = stream.readline(LONGEST + 1)
-    if not _is_newline_taken(chunk):
+    if chunk[-2:] != b"\\\n" or not _is_newline_taken(chunk):
         return chunk if not chunk or (chunk.endswith(b"\n") and len(chunk) <= LONGEST) else None
     line = bytearray()
     while _is_newline_taken(chunk):
@@ -61,17 +63,13 @@ class _Table:
     def __init__(self, docs: int, forms: Dict[bytes, Callable[[bytes], bool]]):
         self.docs = docs
         self.after = "start"
-        self._forms = {b"checksum ": self._checksum, **forms}
-        words = sorted(self._forms, key=len, reverse=True)
-        self._form = re.compile(b"END\\Z|" + b"|".join(map(re.escape, words)))
-        self._forms[b"END"] = self._end
+        self._forms = {b"END": self._end, b"checksum ": self._checksum, **forms}
 
     def allows(self, content: bytes) -> bool:
         """Whether a line of this content may stand after the earlier ones."""
-        found = self._form.match(content)
-        if found is None:
-            return self._is_passed_over(content)
-        return self._forms[found.group()](content[found.end():])
+        found = _FORM.match(content)
+        allows = self._forms.get(found.group()) if found else None
+        return self._is_passed_over(content) if allows is None else allows(content[found.end():])
 
     def is_done(self) -> bool:
         """Whether the text may end here."""
@@ -233,10 +231,10 @@ class Read:
         self.is_checksum_right = is_checksum_right
 
 
-def read_text(stream: BinaryIO, table: _Table, on_line: Callable[[int], None] = lambda at: None) -> Read:
-    """Reads a text to its end, or to its first line that the table does not allow. Calls `on_line` with the place of
-    each line."""
-    at = checksum_at = crc = 0
+def read_text(stream: BinaryIO, table: _Table, on_lines: Callable[[int], None] = lambda at: None) -> Read:
+    """Reads a text to its end, or to its first line that the table does not allow. Calls `on_lines` with the place that
+    it has come to, each 1,024 lines."""
+    at = checksum_at = crc = count = 0
     written = None
     while True:
         line = read_line(stream)
@@ -252,4 +250,6 @@ def read_text(stream: BinaryIO, table: _Table, on_line: Callable[[int], None] = 
         else:
             crc = zlib.crc32(line, crc)
         at += len(line)
-        on_line(at)
+        count += 1
+        if count % 1024 == 0:
+            on_lines(at)
