@@ -49,14 +49,18 @@ pub fn want_at<A: Archive>(table: &PartTable<A>, config: &Config, part: ByteRang
     ensures wanted { IfSome result (λ w. IsWant config.now w) }
     ensures whole { IsTrue A.tells → IfSome result (λ w. HasLength (content A.blobs) config.now w) }
 {
-    if table.files() == 0 || part.end > table.length(0) || part.start >= part.end {
+    if table.files() == 0 {
+        return None;
+    }
+    let length = table.length(0);
+    if part.start >= part.end || part.end > length {
         return None;
     }
     if part.start / config.range as u64 != (part.end - 1) / config.range as u64 {
         return None;
     }
     let region = region_of(part.start, config.region);
-    let len = region_len(table.length(0), region, config.region);
+    let len = region_len(length, region, config.region);
     let base = region * config.region as u64;
     Some(Want {
         key: RegionKey {
