@@ -18,7 +18,7 @@ use Rattle.cache_door.specs.declared.work.Work.{Work}
 use Rattle.cache_door.specs.Machine as machine
 use Rattle.cache_door.specs.Machine.{State, Cell, cell_at, hold_at, with_hold, with_cell, settled, settled_by, evicted, evicted_by, room_by, is_held, is_held_by, unheld_by, hold_on}
 use Rattle.cache_door.specs.Good.{Good, GoodCell}
-use Rattle.cache_door.specs.Doors.{HoldView, hold_view, nothing, IsEntry}
+use Rattle.cache_door.specs.Doors.{HoldView, hold_view, nothing, IsEntry, IsWant}
 use Rattle.cache_door.specs.Cores.{CoreView, view_at, all_tell, cell_of, state_of, no_frame, IsKept, Later}
 use Rattle.cache_door.proofs.Places.{same_is, other_is, head_passes}
 use Rattle.cache_door.proofs.Policies.{touch_changes, settled_changes, unmap_changes}
@@ -247,6 +247,14 @@ module _ {tells : Bool} {files : ℕ → ℕ → List ℕ} (v u : CoreView) (is 
         subst L is (left_later v kept a r y within frame (Some k) v.work),
         subst B is (ap (λ (o : Option ByteRange). Held r o) f.gap),
       )
+
+  pub hold_lies : IsWant u.config want → len_of (view_at u.cells r).metadata.region ≡ want.len → cells.LiesInRange want.sub x.metadata
+  hold_lies w l =
+      let Q : CoreView → Type 0 = λ q. len_of (view_at q.cells r).metadata.region ≡ want.len in
+      let n : len_of x.metadata.region ≡ want.len = sym (ap (λ (c : CellView). len_of c.metadata.region) (read_is v.cells r x (new_cell no_frame 0) read within)) ∙ subst Q (sym is) l in
+      let P : CoreView → Type 0 = λ q. IsWant q.config want in
+      let k = subst P (sym is) w in
+      (k.sub.0, omega (arith, n, k.sub.1), rw range_t k.sub.2)
 
   pub hold_entry : len_of (view_at u.cells r).metadata.region ≡ want.len → (g : Option ByteRange)
       → IfSome g (λ q. (q.start < q.end) × (want.sub.start / x.metadata.range * x.metadata.range ≤ q.start) × (q.end ≤ want.sub.start / x.metadata.range * x.metadata.range + x.metadata.range) × (q.end ≤ len_of x.metadata.region))

@@ -82,9 +82,9 @@ pub ok_then : {T E : Type 0} {P Q : Type 0} (r : Result T E) → (P → Q) → O
 ok_then (Ok v) f p = f p
 ok_then (Err e) f p = tt
 
-pub ok_under : {T E : Type 0} {P Q : Type 0} (r : Result T E) → (P → OnOk r Q) → OnOk r (P → Q)
-ok_under (Ok v) f = f
-ok_under (Err e) f = tt
+pub ok_under : {T E : Type 0} {P : Type 0} (Q : Type 0) (r : Result T E) → (P → OnOk r Q) → OnOk r (P → Q)
+ok_under Q (Ok v) f = f
+ok_under Q (Err e) f = tt
 
 -- what a call with two answers makes of a tracker
 pub by_answer : {T E : Type 0} (r : Result T E) (x ok err : TrackerView) → OnOk r (x ≡ ok) → OnErr r (x ≡ err) → (x ≡ ok) ⊎ (x ≡ err)
