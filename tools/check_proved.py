@@ -6,7 +6,8 @@ In a table of docs/PROVED.md, and of each crates/NAME/README.md with a column 'c
   clause   `crate::Type::call (clause, clause)`: the function or trait method has an `ensures` clause of each name;
            `ensures` alone is a clause without a name. In a crate's own page the crate may be left out, and the
            calls may stand in a column 'call' of their own, each clause being one of some call named there;
-           a trait stands for all its calls, and for its laws
+           what stands in parentheses there is passed over. A trait stands for all its calls and for its laws,
+           and the calls of a type that implements a trait have the trait's clauses
   edit     `crate/edit`: crates/crate/must-fail/edit.edit is there
   test     `crate::test`: a #[test] function; `crate/proofs/File`: a file of worked examples that the prover computes;
            `crate/stdout`: the program's stored run; `tools/file.py`: tests of a tool
@@ -81,11 +82,23 @@ class Repository:
             if (crate / "src").is_dir():
                 self.functions[crate.name] = [f for file in sorted((crate / "src").rglob("*.rt")) for f in functions_of(file)]
 
+        self.traits = {f.name: f for fs in self.functions.values() for f in fs if f.name[:1].isupper()}
+        self.types = {(crate, name) for crate, fs in self.functions.items() for f in fs for name in f.owner}
+
+    def clauses_of(self, function):
+        """The clauses of a function, those of the trait whose method it implements among them."""
+        traits = [self.traits[name] for name in function.owner if name in self.traits]
+        return function.clauses.union(*(t.clauses for t in traits))
+
     def of_path(self, path):
         """The functions that a path names: of the crate, and of the type where one is named."""
         parts = path.split("::")
         if len(parts) < 2 or parts[0] not in self.functions:
             return []
+        if parts[-1] in self.traits:
+            return [self.traits[parts[-1]]]
+        if (parts[0], parts[-1]) in self.types:
+            return [f for f in self.functions[parts[0]] if parts[-1] in f.owner]
         named = [f for f in self.functions[parts[0]] if f.name == parts[-1]]
         if len(parts) > 2 and parts[-2][:1].isupper():
             named = [f for f in named if parts[-2] in f.owner]
@@ -99,7 +112,7 @@ class Repository:
         wanted = [c.strip() for c in (clauses or "").split(",") if c.strip()]
         if not wanted:
             return "no clause is named"
-        missing = [c for c in wanted if not any(c in f.clauses for f in named)]
+        missing = [c for c in wanted if not any(c in self.clauses_of(f) for f in named)]
         return f"no clause {', '.join(missing)}" if missing else ""
 
     def lacks_call(self, path):
@@ -108,7 +121,7 @@ class Repository:
 
     def lacks_clause_of(self, paths, clause):
         """What a clause of one of these calls lacks, in words, or ''."""
-        return "" if any(clause in f.clauses for path in paths for f in self.of_path(path)) else "no call of this row has it"
+        return "" if any(clause in self.clauses_of(f) for path in paths for f in self.of_path(path)) else "no call of this row has it"
 
     def lacks_test(self, name):
         """What a named test lacks, in words, or ''."""
@@ -160,7 +173,7 @@ def check(repository, page, crate):
             calls = [whole(c) for c in re.findall(r"`([^`]+)`", row["call"])]
             for call in calls:
                 note(number, call, repository.lacks_call(call))
-            for name in re.findall(r"`([^`]+)`", row.get("clause", "")):
+            for name in re.findall(r"`([^`]+)`", re.sub(r"\([^)]*\)", "", row.get("clause", ""))):
                 note(number, name, repository.lacks_clause_of(calls, name))
         for name in re.findall(r"`([^`]+)`", "" if "call" in row else row.get("clause", "")):
             named = NAMED.match(name)
