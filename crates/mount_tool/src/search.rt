@@ -113,7 +113,7 @@ fn manifest_line<A: Archive, S: BlobSource<A>>(
     value: &str,
 ) -> Line
     requires small { number < 65536 }
-    requires told { IsTrue A.tells → manifest_at A.blobs number ≡ Ok manifest.now }
+    requires manifest { IsTrue A.tells → manifest_at A.blobs number ≡ Ok manifest.now }
     ensures allowed { IsAllowed A.tells (facts_line field.now value.now A.blobs number manifest.now)
         (S.view source.old).faults (S.view source.new).faults result }
     ensures same { (S.view source.new).identity ≡ (S.view source.old).identity }
