@@ -10,5 +10,5 @@ loop-done-preserved g c =
     let whole = ap (λ (p : List ℕ). behind ((g.K.Sink.view c.loop-done.sink).written) (take n p)) (take_rest c.args.text.now c.loop-done.done) in (
       search rules,
       search rules,
-      written_on _ _ _ c.args.text.now c.loop-done.done n c.loop-done.invariant.2 (c.in_ok-done.ensures.written ∙ whole),
+      written_on _ _ _ c.args.text.now c.loop-done.done n c.loop-done.invariant.2 (c.in_ok-done.ensures.sink.written ∙ whole),
     )
