@@ -31,7 +31,20 @@ pub use mem_text::MemText;
 pub use memory::MemSource;
 pub use sink::Sink;
 pub use source::{Archive, BlobSource};
+use std::rt::Files;
 pub use std_clock::StdClock;
 pub use std_sink::StdSink;
 pub use std_text::StdText;
 pub use text_source::TextSource;
+
+// A missing proof of `Send` or `Sync` shows here, and not first at the threads above.
+fn crosses<T: Send + Sync>() {}
+
+/// Sources may be handed to other threads and shared.
+pub fn sources_cross<A: Archive + Send + Sync, Rt: Files + Send + Sync + Drop>()
+where
+    Rt::File: Send + Sync,
+{
+    crosses::<MemSource<A>>();
+    crosses::<FolderSource<Rt>>();
+}

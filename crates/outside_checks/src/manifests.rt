@@ -1,5 +1,8 @@
-use super::*;
+// Manifests that are read and refused, and names.
+use byte_text::{Name, Text};
+use mount_manifest::{Manifest, ManifestError};
 use std::alloc::Global;
+use std::test::Fail;
 
 const MOUNT_X: &str =
     "{\"version\":1,\"files\":[{\"name\":\"__a\",\"physical_name\":\"_0.pst\",\"length\":172,\"part_size\":100}],\"segments\":[{\"name\":\"_0\",\"docs\":3,\"postings\":\"_0.pst\"}]}";
@@ -38,6 +41,32 @@ fn finds_by_name(rt: HostRuntime) -> Result<(), ManifestError> {
             assert_eq!(rt; manifest.find_segment(&name), segment);
         }
     }
+    Ok(())
+}
+
+/// Each kind of letter, the longest name and the first that is too long, and a text that grows.
+#[test]
+fn names_and_texts(rt: HostRuntime) -> Result<(), Fail> {
+    let alloc = rt.alloc();
+    for (text, is_name) in [
+        ("", false),
+        ("a", true),
+        ("_0.pst-X", true),
+        ("a b", false),
+        ("é", false),
+    ] {
+        assert_eq!(rt; Name::read(alloc, text.as_bytes())?.is_some(), is_name);
+    }
+    for (count, is_name) in [(255, true), (256, false)] {
+        let long = vec![in alloc; b'n'; count]?;
+        assert_eq!(rt; Name::read(alloc, &long)?.is_some(), is_name);
+    }
+    let mut text = Text::of(alloc, b"ab")?;
+    text.push(b'c')?;
+    text.extend(b"de")?;
+    assert_eq!(rt; text.as_bytes(), b"abcde".as_slice());
+    text.clear();
+    assert_eq!(rt; text.as_bytes(), b"".as_slice());
     Ok(())
 }
 
