@@ -1,5 +1,5 @@
 -- One part by its entry, where the state of the cache is told and one actor works alone.
-use Rattle.std.proofs.Common.{arith, ◌≡◌, ◌≢◌, ◌<◌, ◌≤◌, ◌+◌, ◌-◌, ◌*◌, ◌/◌, ◌∙◌, ℕ, List, [], Bool, true, false, Option, Some, None, Result, Ok, Err, map, refl, inl, ap, sym, subst, length}
+use Rattle.std.proofs.Common.{arith, ◌≡◌, ◌≢◌, ◌<◌, ◌≤◌, ◌+◌, ◌-◌, ◌*◌, ◌/◌, ◌∙◌, ℕ, List, [], ◌∷◌, Bool, true, false, Option, Some, None, Result, Ok, Err, map, refl, inl, ap, sym, subst, length}
 use Rattle.std.specs.Prelude.{IsTrue, IfSome, OnOk, IsErrOf, option_map, min}
 use Rattle.std.proofs.Math.Nat.{div-mul-le_self, le_refl}
 use Rattle.region_ranges.specs.declared.ranges.ByteRange.{ByteRange}
@@ -178,6 +178,10 @@ entries_glanced {files = files} c a file p want base size last config out_of_mem
       };
     }
 
+-- want of memory
+entries_lacked : (c : ReadSetting) (a : ℕ) (ps : List FilePart) (q r : Report) (x y : Moment) → ByEntries c a ps true q r x y
+entries_lacked c a ps q r x y told enough calm still s is one = absurd (cc)
+
 -- a part that was refused
 pub entries_refused : (T : Type 0) (e : BytesError) (c : ReadSetting) (a file range at upto end : ℕ) (p : ByteRange) (m n q r s : Report) (x y z : Moment)
     → 0 < range → upto < end → p.start ≡ upto → p.end ≡ min end (next_cut upto range) → Goes c m x y → Goes c n y z
@@ -187,4 +191,4 @@ pub entries_refused : (T : Type 0) (e : BytesError) (c : ReadSetting) (a file ra
 entries_refused T bytes.Fault c a file range at upto end p m n q r s x y z some less starts ends goes more cause there entry h = read_to_refused c a (map (in_file file) (parts range (cut_at at end))) false m q s x y z goes (λ u. cause)
 entries_refused T (bytes.Gone k) c a file range at upto end p m n q r s x y z some less starts ends goes more cause there entry h =
     read_to_gone c a file range at upto end p false m n q r s x y z some less starts ends goes more (there cause.1) entry h
-entries_refused T bytes.NoMemory c a file range at upto end p m n q r s x y z some less starts ends goes more cause there entry h told enough calm still t is one = absurd (cc)
+entries_refused T bytes.NoMemory c a file range at upto end p m n q r s x y z some less starts ends goes more cause there entry h = entries_lacked c a (map (in_file file) (parts range (cut_at at end))) q s x z

@@ -1,11 +1,11 @@
 -- Parts of a read, one behind another.
-use Rattle.std.proofs.Common.{arith, ◌≡◌, ◌≤◌, ◌+◌, ℕ, List, ◌++◌, length, take, drop, Bool, true, false, refl, ap, sym, ◌∙◌}
+use Rattle.std.proofs.Common.{arith, ◌≡◌, ◌<◌, ◌≤◌, ◌+◌, ℕ, List, ◌++◌, length, take, drop, Bool, true, false, refl, ap, sym, ◌∙◌}
 use Rattle.std.proofs.lemmas.Slice.{take-put_mid, take-put_mid_below, drop-put_mid}
 use Rattle.std.proofs.lemmas.List.{drop-drop}
 use borrow.Rule.Slice.PartMut.{put_mid}
 use Rattle.blob_parts.specs.Content.{slice_of}
 use Rattle.cache_reader.specs.declared.report.Report.{Report}
-use Rattle.cache_reader.specs.Reports.{joined, no_bytes}
+use Rattle.cache_reader.specs.Reports.{joined, no_bytes, Counted}
 use Rattle.cache_reader.specs.Parts.{ReadSetting}
 use Rattle.cache_reader.specs.Going.{Moment}
 use Rattle.cache_reader.specs.Filling.{PartGoes}

@@ -1,13 +1,13 @@
 // The gap of a hold: fetched in pieces, each stored at once.
-ghost use Rattle.std.specs.Prelude.{option_map, ◌≡◌, ◌<◌, ◌≤◌, ◌+◌, ◌-◌, ◌*◌, true, false, Some, Ok, IsTrue, IsErrOf, IfSome, length};
+ghost use Rattle.std.specs.Prelude.{◌≡◌, ◌<◌, ◌≤◌, ◌+◌, ◌-◌, ◌*◌, true, false, Some, Ok, IsTrue, IsErrOf, IfSome, length};
 ghost use Rattle.cache_outside.specs.Causes.{Rose};
 ghost use Rattle.blob_parts.specs.Content.{content, content_places, slice_of};
 ghost use Rattle.blob_parts.specs.Tables.{file_length};
 ghost use Rattle.blob_parts.specs.Takes.{Takes, Took};
 ghost use Rattle.region_ranges.specs.Keys.{manifest_of};
 ghost use Rattle.region_cell.specs.Cells.{file_of, part_of};
-ghost use Rattle.cache_door.specs.Doors.{range_start, range_end};
-ghost use Rattle.cache_door.specs.Machine.{State, store, hold_at};
+ghost use Rattle.cache_door.specs.Doors.{Becomes, storing, range_start, range_end};
+ghost use Rattle.cache_door.specs.Machine.{State};
 ghost use Rattle.cache_reader.specs.Reports.{fetched_bytes};
 ghost use Rattle.cache_reader.specs.Parts.{read_setting};
 ghost use Rattle.cache_reader.specs.Going.{moment, Goes};
@@ -89,6 +89,7 @@ fn fill<A: Archive, D: CacheDoor<A>, S: BlobSource<A>>(
     let _length = table.length(file);
     let mut at = gap.start;
     while at < gap.end {
+        door.lesson();
         let len = (gap.end - at).min(PIECE) as u32;
         match store_piece(alloc, door, source, table, file, base + at, len, setting) {
             Ok(true) => {

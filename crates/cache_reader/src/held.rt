@@ -1,13 +1,13 @@
 // A part whose region is held: filled, copied, and given back; or read past the cache.
-ghost use Rattle.std.specs.Prelude.{option_map, ◌≡◌, ◌≢◌, ◌<◌, ◌≤◌, ◌+◌, ◌-◌, ◌*◌, ℕ, true, false, Some, Ok, Err, IsTrue, OnOk, IsErr, IsErrOf, IfSome, length};
+ghost use Rattle.std.specs.Prelude.{◌≡◌, ◌≢◌, ◌<◌, ◌≤◌, ◌+◌, ◌-◌, ◌*◌, ℕ, true, false, Some, Ok, Err, IsTrue, OnOk, IsErr, IsErrOf, IfSome, length};
 ghost use Rattle.region_cell.specs.Cells.{region_bytes};
 ghost use Rattle.cache_outside.specs.Causes.{Rose};
 ghost use Rattle.blob_parts.specs.Content.{content, content_places, slice_of};
 ghost use Rattle.blob_parts.specs.Tables.{file_length};
-ghost use Rattle.blob_parts.specs.Takes.{Takes, Took};
+ghost use Rattle.blob_parts.specs.Takes.{SourceLater, Takes, Took};
 ghost use Rattle.region_ranges.specs.Keys.{manifest_of};
 ghost use Rattle.region_cell.specs.Cells.{file_of, part_of};
-ghost use Rattle.cache_door.specs.Doors.{Grown, range_start, range_end, nothing};
+ghost use Rattle.cache_door.specs.Doors.{AsHeld, Becomes, leaving, range_start, range_end, nothing};
 ghost use Rattle.cache_door.specs.Machine.{State, leave, hold_at};
 ghost use Rattle.cache_reader.specs.Reports.{no_bytes, direct_bytes, Counted};
 ghost use Rattle.cache_reader.specs.Bounds.{Worked};
@@ -85,7 +85,8 @@ fn read_held<A: Archive, D: CacheDoor<A>, S: BlobSource<A>>(
 {
     match fill_gap(alloc, door, source, table, file, base, gap, setting, report) {
         Ok(true) => {
-                Ok(copy_held(door, out))
+            door.lesson();
+            Ok(copy_held(door, out))
         }
         Ok(false) => {
             door.leave();

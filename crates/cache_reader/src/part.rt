@@ -1,12 +1,13 @@
 // One part of a file, read through a door: it lies in one region and in one of the region's ranges.
 ghost use Rattle.std.specs.Option.{ForSome};
-ghost use Rattle.std.specs.Prelude.{◌≡◌, ◌<◌, ◌≤◌, ◌-◌, ◌/◌, Some, [], ◌∷◌, IsTrue, OnOk, length};
+ghost use Rattle.std.specs.Prelude.{◌≡◌, ◌<◌, ◌≤◌, ◌-◌, ◌/◌, Some, false, [], ◌∷◌, IsTrue, OnOk, length};
 ghost use Rattle.region_ranges.specs.Keys.{tag_of, IsConfig};
 ghost use Rattle.region_cell.specs.Cells.{region_bytes};
 ghost use Rattle.blob_parts.specs.Content.{content, slice_of};
 ghost use Rattle.blob_parts.specs.Tables.{file_length};
-ghost use Rattle.cache_door.specs.Doors.{IsWant, HasLength, Grown, nothing};
+ghost use Rattle.cache_door.specs.Doors.{IsWant, HasLength, AsWanted, nothing};
 ghost use Rattle.cache_door.specs.Machine.{State};
+ghost use Rattle.cache_reader.specs.Reader.{files_seen};
 ghost use Rattle.directory_input.specs.Causes.{IsCaused, refusal};
 ghost use Rattle.cache_reader.specs.Reports.{no_bytes};
 ghost use Rattle.cache_reader.specs.Bounds.{Worked};
@@ -133,6 +134,7 @@ fn enter_part<A: Archive, D: CacheDoor<A>, S: BlobSource<A>>(
     ensures outcome { Calmly (read_setting A.tells A.blobs table.now setting.now) (part_outcome (read_setting A.tells A.blobs table.now setting.now) (D.view door.old).actor file part) (is_memory result) report.old report.new (moment (S.view source.old) (D.view door.old)) (moment (S.view source.new) (D.view door.new)) }
 {
     let _length = table.length(file);
+    door.lesson();
     *last = None;
     match door.enter(setting.mount, want, setting.time) {
         Ok(Entered::Held { region, gap }) => {
@@ -191,6 +193,7 @@ pub(crate) fn read_part<A: Archive, D: CacheDoor<A>, S: BlobSource<A>>(
     ensures entries { ByEntries (read_setting A.tells A.blobs table.now setting.now) (D.view door.old).actor (in_file file part ∷ []) (is_memory result) report.old report.new (moment (S.view source.old) (D.view door.old)) (moment (S.view source.new) (D.view door.new)) }
 {
     let _length = table.length(file);
+    door.lesson();
     let want = want_at(table, &setting.config, file, part);
     if glance_last(door, last, &want, out) {
         report.copy(out.len());

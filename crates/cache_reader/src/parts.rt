@@ -1,10 +1,11 @@
 // The parts of a read, one after another.
 ghost use Rattle.std.specs.Option.{ForSome};
-ghost use Rattle.std.specs.Prelude.{◌≡◌, ◌<◌, ◌≤◌, ◌+◌, ◌-◌, ◌*◌, ◌/◌, min, IsTrue, OnOk, IsOk, length, take, drop};
+ghost use Rattle.std.specs.Prelude.{◌≡◌, ◌<◌, ◌≤◌, ◌+◌, ◌-◌, ◌*◌, ◌/◌, min, false, IsTrue, OnOk, IsOk, length, take, drop};
 ghost use Rattle.region_ranges.specs.Keys.{IsConfig};
 ghost use Rattle.blob_parts.specs.Content.{content, slice_of};
 ghost use Rattle.blob_parts.specs.Tables.{file_length};
 ghost use Rattle.cache_door.specs.Doors.{nothing};
+ghost use Rattle.cache_reader.specs.Reader.{files_seen};
 ghost use Rattle.directory_input.specs.Causes.{IsCaused, refusal};
 ghost use Rattle.cache_reader.specs.Reports.{no_bytes};
 ghost use Rattle.cache_reader.specs.Parts.{read_setting};
@@ -74,6 +75,7 @@ pub(crate) fn read_parts<A: Archive, D: CacheDoor<A>, S: BlobSource<A>>(
     ensures empty { length out.old ≡ 0 → IsOk result × (door.new ≡ door.old) × (source.new ≡ source.old) }
 {
     let _length = table.length(file);
+    door.lesson();
     let end = at + out.len() as u64;
     let mut done = 0;
     while done < out.len() {
@@ -93,7 +95,8 @@ pub(crate) fn read_parts<A: Archive, D: CacheDoor<A>, S: BlobSource<A>>(
         ) {
             Ok(()) => done = upto,
             Err(e) => {
-                        return Err(e);
+                door.lesson();
+                return Err(e);
             }
         }
     }

@@ -1,6 +1,6 @@
 // Reads of a mount's files.
 ghost use Rattle.std.specs.Option.{ForSome};
-ghost use Rattle.std.specs.Prelude.{◌<◌, ◌≤◌, ◌+◌, ◌≡◌, ◌×◌, false, None, IsTrue, IsOk, OnOk, length};
+ghost use Rattle.std.specs.Prelude.{◌<◌, ◌≤◌, ◌+◌, ◌≡◌, false, None, IsTrue, IsOk, OnOk, length};
 ghost use Rattle.region_ranges.specs.Keys.{IsConfig};
 ghost use Rattle.directory_input.specs.Causes.{HasReadCause, refusal};
 ghost use Rattle.directory_input.specs.Reads.{one_read, slice_of};
@@ -41,6 +41,20 @@ pub struct Reader<'a, A: Archive, D: CacheDoor<A>, S: BlobSource<A>> {
     ghost reach: { ForSome last (λ l. l.region < setting.config.regions) },
     ghost fits: { LastFits setting.mount setting.time last (D.view door.now).state }
         by { last_fits_prop setting.mount setting.time last (D.view door.now).state },
+}
+
+/// What clauses see of a reader. It has a meaning alone.
+pub trait Seen {
+    ghost use Rattle.cache_reader.specs.Reader.{ReaderView};
+
+    /// What stays the same while the reader lives, its source and door, the sums of its reads, and whether a read of it was
+    /// refused for want of memory.
+    ghost seen: { Self → ReaderView };
+}
+
+impl<'a, A: Archive, D: CacheDoor<A>, S: BlobSource<A>> Seen for Reader<'a, A, D, S> {
+    ghost seen = { λ d. record { setting = read_setting A.tells A.blobs d.table.now d.setting;
+        moment = moment (S.view d.source.now) (D.view d.door.now); total = d.total; out_of_memory = d.out_of_memory } };
 }
 
 impl<'a, A: Archive, D: CacheDoor<A>, S: BlobSource<A>> Reader<'a, A, D, S> {
@@ -87,7 +101,7 @@ impl<'a, A: Archive, D: CacheDoor<A>, S: BlobSource<A>> Reader<'a, A, D, S> {
     /// The sums of all reads so far. A read that was refused counts with what it had done by then. Each sum stops at
     /// the last value of its type.
     pub fn total(&self) -> Report
-        ensures { result ≡ self.now.total }
+        ensures { result ≡ (⟦<Reader<'a, A, D, S> as Seen>⟧.seen self.now).total }
     {
         self.total
     }
@@ -107,10 +121,15 @@ impl<'a, A: Archive, D: CacheDoor<A>, S: BlobSource<A>> Reader<'a, A, D, S> {
     pub fn read(&mut self, file: u32, at: u64, out: &mut [u8]) -> Result<Report, BytesError>
         requires file { file < (⟦<Reader<'a, A, D, S> as FileBytes>⟧.view self.old).count }
         requires inside { at + length out.old ≤ (⟦<Reader<'a, A, D, S> as FileBytes>⟧.view self.old).lengths file }
-        ensures bytes { IsTrue (⟦<Reader<'a, A, D, S> as FileBytes>⟧.view self.old).tells
-            → OnOk result (out.new ≡ slice_of at (length out.old) ((⟦<Reader<'a, A, D, S> as FileBytes>⟧.view self.old).bytes file)) }
+        ensures bytes { let files = ⟦<Reader<'a, A, D, S> as FileBytes>⟧.view self.old in
+            IsTrue files.tells → OnOk result (out.new ≡ slice_of at (length out.old) (files.bytes file)) }
         ensures goes { ⟦<Reader<'a, A, D, S> as FileBytes>⟧.goes_by (one_read file at (length out.old)) self.old self.new }
-        ensures cause { HasReadCause (⟦<Reader<'a, A, D, S> as FileBytes>⟧.view self.old) (⟦<Reader<'a, A, D, S> as FileBytes>⟧.view self.new) (refusal result) }
+        ensures cause { let view = ⟦<Reader<'a, A, D, S> as FileBytes>⟧.view in
+            HasReadCause (view self.old) (view self.new) (refusal result) }
+        ensures report { let seen = ⟦<Reader<'a, A, D, S> as Seen>⟧.seen in
+            Reported (record { file = file; at = at; size = length out.old }) result out.old out.new (seen self.old) (seen self.new) }
+        ensures empty { let seen = ⟦<Reader<'a, A, D, S> as Seen>⟧.seen in
+            length out.old ≡ 0 → IsOk result × ((seen self.new).moment ≡ (seen self.old).moment) }
     {
         let mut report = Report::new();
         let answer = read_parts(
@@ -139,7 +158,7 @@ impl<'a, A: Archive, D: CacheDoor<A>, S: BlobSource<A>> Reader<'a, A, D, S> {
 impl<'a, A: Archive, D: CacheDoor<A>, S: BlobSource<A>> FileBytes for Reader<'a, A, D, S> {
     ghost use Rattle.std.proofs.Common.{refl, ap, ◌∙◌};
     ghost use Rattle.directory_input.specs.Reads.{Read};
-    ghost use Rattle.cache_reader.specs.Reader.{ReadsThrough, files_seen};
+    ghost use Rattle.cache_reader.specs.Reader.{ReadsOn, files_seen};
     ghost use Rattle.cache_reader.specs.Onward.{no_reads, more_of_same, same_setting, files_kept};
 
     ghost view = { λ d. files_seen (read_setting A.tells A.blobs d.table.now d.setting)
@@ -148,9 +167,7 @@ impl<'a, A: Archive, D: CacheDoor<A>, S: BlobSource<A>> FileBytes for Reader<'a,
     ghost goes_by = { λ rs x y. (y.door.ghost_name ≡ x.door.ghost_name) × (y.source.ghost_name ≡ x.source.ghost_name)
         × (y.table ≡ x.table) × (y.setting ≡ x.setting)
         × D.stays x.door.now y.door.now × ((D.view y.door.now).hold ≡ nothing)
-        × ReadsThrough (read_setting A.tells A.blobs x.table.now x.setting) (D.view x.door.now).actor rs x.total y.total
-            x.out_of_memory y.out_of_memory
-            (moment (S.view x.source.now) (D.view x.door.now)) (moment (S.view y.source.now) (D.view y.door.now)) };
+        × ReadsOn rs (⟦<Reader<'a, A, D, S> as Seen>⟧.seen x) (⟦<Reader<'a, A, D, S> as Seen>⟧.seen y) };
 
     ghost by_none = { λ x. (refl, refl, refl, refl, D.stays_same x.door.now, x.free,
         no_reads (read_setting A.tells A.blobs x.table.now x.setting) (D.view x.door.now).actor x.total x.out_of_memory

@@ -2,5 +2,6 @@ mod another_length;
 mod cell;
 mod door;
 mod faulty;
+mod reader;
 mod rows;
 mod sample;

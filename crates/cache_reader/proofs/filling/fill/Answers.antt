@@ -30,7 +30,7 @@ loop-at-preserved g c =
           let now = (g.D.CacheDoor.view c.store_piece.new.door).state in
           stored_more _ (g.D.CacheDoor.view c.args.door.now).actor c.args.file c.args.base c.args.gap.start c.loop-at.at c.min-len.result c.args.gap.end s before now piece (g.D.CacheDoor.view c.loop-at.door).hold
           c.loop-at-test.true (omega (arith, c.min-len.ensures)) (omega (arith, size, c.requires.inside)) refl
-          (λ t is. (let agrees = at_rest g.A.Archive.tells (content g.A.Archive.blobs) (g.D.CacheDoor.view c.loop-at.door) t (g.met.D.CacheDoor.at_rest c.loop-at.door) is in (agrees.good, agrees.hold ∙ ap (λ n. hold_view (hold_at t n)) act)))
+          (λ t is. (let agrees = at_rest g.A.Archive.tells (content g.A.Archive.blobs) (g.D.CacheDoor.view c.loop-at.door) t c.lesson.ensures.agrees is in (agrees.good, agrees.hold ∙ ap (λ n. hold_view (hold_at t n)) act)))
           (ap (λ (t : HoldView). t.upto) c.loop-at.invariant.hold) (ap (λ (t : HoldView). t.gap_end) c.loop-at.invariant.hold ∙ c.requires.gap.1)
           (subst (λ n. now ≡ option_map (storing piece n) before) act (c.in-Ok-true.ensures.stored (ap Ok c.in-Ok-true.field-0-test) told))
           (c.loop-at.invariant.stored told s e);

@@ -1,4 +1,4 @@
-use Rattle.std.proofs.Common.{arith, ◌≡◌, ◌∙◌, Ok, Err, ap, length, refl}
+use Rattle.std.proofs.Common.{arith, ◌≡◌, ◌∙◌, Ok, Err, true, false, ap, length, refl}
 use Rattle.region_ranges.specs.Keys.{manifest_of}
 use Rattle.region_cell.specs.Cells.{file_of, part_of}
 use Rattle.blob_parts.specs.Content.{content, content_places}

@@ -1,4 +1,4 @@
-use Rattle.std.proofs.Common.{arith, ◌≡◌, ◌-◌, ◌∙◌, Err, Some, ap, sym, subst, refl}
+use Rattle.std.proofs.Common.{arith, ◌≡◌, ◌-◌, ◌∙◌, false, Err, Some, ap, sym, subst, refl}
 use Rattle.blob_parts.specs.Content.{content_places}
 use Rattle.cache_reader.proofs.Answered.{caused_by, caused_of, refused_of, on_answered, on_refused, piece_of}
 use Rattle.cache_reader.proofs.Joins.{door_step, source_step, worked_idle}
@@ -12,6 +12,7 @@ use Rattle.cache_door.specs.Machine.{State}
 use Rattle.cache_reader.specs.declared.part.Last.{Last}
 use Rattle.cache_reader.specs.Parts.{read_setting}
 use Rattle.cache_reader.specs.Going.{moment}
+use Rattle.cache_reader.specs.Reader.{files_seen}
 use Rattle.cache_reader.specs.Filling.{is_answered}
 use Rattle.cache_reader.specs.Alone.{LastFits}
 use Rattle.cache_reader.proofs.Rooms.{entered_fits, last_kept}
@@ -35,16 +36,23 @@ returns-in-Ok-false-clause-bytes g c told frames = c.in-Ok-false.ensures.bytes t
 
 pub returns-in-Err-read_entered-clause-cause : goal.returns-in-Err-read_entered-clause-cause
 returns-in-Err-read_entered-clause-cause g c =
-    caused_by c.in-Err-read_entered.e _ _ (λ same. c.in-Err-read_entered.ensures.cause (ap Err same)) (λ m same. c.in-Err-read_entered.ensures.present m (ap Err same))
+    let l = read_setting g.A.Archive.tells g.A.Archive.blobs c.args.table.now c.args.setting.now in
+    let x = moment (g.S.BlobSource.view c.args.source.now) (g.D.CacheDoor.view c.args.door.now) in
+    let z = moment (g.S.BlobSource.view c.read_entered.new.source) (g.D.CacheDoor.view c.read_entered.new.door) in
+    caused_by c.in-Err-read_entered.e (files_seen l x false) (files_seen l z false) (λ same. c.in-Err-read_entered.ensures.cause (ap Err same)) (λ m same. c.in-Err-read_entered.ensures.present m (ap Err same))
 
 pub returns-in-Err-read_entered-clause-part : goal.returns-in-Err-read_entered-clause-part
 returns-in-Err-read_entered-clause-part g c =
     let work = rw c.in-Ok-Held.field-0-is at c.in-Ok-Held.ensures.work in
     part_after _ _ _ _ _ _ _ _ (door_step _ _ _ _ (g.met.D.CacheDoor.later _ _ c.enter.ensures.stays) c.enter.ensures.unmounted (worked_idle _ _ work)) refl
-    (rw c.requires.len at c.in-Err-read_entered.ensures.part)
+    c.in-Err-read_entered.ensures.part
 
 pub returns-in-Ok-NoRoom-clause-cause : goal.returns-in-Ok-NoRoom-clause-cause
-returns-in-Ok-NoRoom-clause-cause g c = caused_of c.direct.result _ _ c.direct.ensures.source.failed c.direct.ensures.present
+returns-in-Ok-NoRoom-clause-cause g c =
+    let l = read_setting g.A.Archive.tells g.A.Archive.blobs c.args.table.now c.args.setting.now in
+    let x = moment (g.S.BlobSource.view c.args.source.now) (g.D.CacheDoor.view c.args.door.now) in
+    let z = moment (g.S.BlobSource.view c.direct.new.source) (g.D.CacheDoor.view c.enter.new.self) in
+    caused_of c.direct.result (files_seen l x false) (files_seen l z false) c.direct.ensures.source.failed c.direct.ensures.present
 
 pub returns-in-Ok-NoRoom-clause-part : goal.returns-in-Ok-NoRoom-clause-part
 returns-in-Ok-NoRoom-clause-part g c =
@@ -74,7 +82,7 @@ returns-in-Ok-true-clause-outcome g c =
     let later = g.met.D.CacheDoor.later _ _ c.enter.ensures.stays in
     let z = moment (g.S.BlobSource.view c.read_entered.new.source) (g.D.CacheDoor.view c.read_entered.new.door) in
     exactly_held l d.actor c.args.file c.args.part c.args.want.now (c.args.part.start - c.args.want.now.sub.start) c.in-Ok-Held.region c.in-Ok-Held.gap _ c.args.report.now c.read_entered.new.report (moment s d) (moment s f) z
-    (λ told t e. known_of l c.args.file (file_length c.args.table.now c.args.file) c.args.part c.args.want.now d t (g.met.D.CacheDoor.at_rest c.args.door.now) e c.requires.free c.requires.own c.requires.want (c.length-length.ensures.whole told ∙ c.length-length.ensures.value))
+    (λ told t e. known_of l c.args.file (file_length c.args.table.now c.args.file) c.args.part c.args.want.now d t c.lesson.ensures.agrees e c.requires.free c.requires.own c.requires.want (c.length-length.ensures.whole told ∙ c.length-length.ensures.value))
     (entry_answers l s d f c.args.want.now (Held c.in-Ok-Held.region c.in-Ok-Held.gap) (rw c.in-Ok-Held.field-0-is at c.in-Ok-Held.ensures.answer) c.in-Ok-Held.ensures.state later)
     c.read_entered.ensures.part.goes.faults c.read_entered.ensures.part.goes.frame_faults (rw later.actor at c.in-Ok-true.ensures.exact)
 
@@ -87,7 +95,7 @@ returns-in-Ok-false-clause-outcome g c =
     let later = g.met.D.CacheDoor.later _ _ c.enter.ensures.stays in
     let z = moment (g.S.BlobSource.view c.read_entered.new.source) (g.D.CacheDoor.view c.read_entered.new.door) in
     exactly_held l d.actor c.args.file c.args.part c.args.want.now (c.args.part.start - c.args.want.now.sub.start) c.in-Ok-Held.region c.in-Ok-Held.gap _ c.args.report.now c.read_entered.new.report (moment s d) (moment s f) z
-    (λ told t e. known_of l c.args.file (file_length c.args.table.now c.args.file) c.args.part c.args.want.now d t (g.met.D.CacheDoor.at_rest c.args.door.now) e c.requires.free c.requires.own c.requires.want (c.length-length.ensures.whole told ∙ c.length-length.ensures.value))
+    (λ told t e. known_of l c.args.file (file_length c.args.table.now c.args.file) c.args.part c.args.want.now d t c.lesson.ensures.agrees e c.requires.free c.requires.own c.requires.want (c.length-length.ensures.whole told ∙ c.length-length.ensures.value))
     (entry_answers l s d f c.args.want.now (Held c.in-Ok-Held.region c.in-Ok-Held.gap) (rw c.in-Ok-Held.field-0-is at c.in-Ok-Held.ensures.answer) c.in-Ok-Held.ensures.state later)
     c.read_entered.ensures.part.goes.faults c.read_entered.ensures.part.goes.frame_faults (rw later.actor at c.in-Ok-false.ensures.exact)
 
@@ -100,7 +108,7 @@ returns-in-Err-read_entered-clause-outcome g c =
     let later = g.met.D.CacheDoor.later _ _ c.enter.ensures.stays in
     let z = moment (g.S.BlobSource.view c.read_entered.new.source) (g.D.CacheDoor.view c.read_entered.new.door) in
     exactly_held l d.actor c.args.file c.args.part c.args.want.now (c.args.part.start - c.args.want.now.sub.start) c.in-Ok-Held.region c.in-Ok-Held.gap _ c.args.report.now c.read_entered.new.report (moment s d) (moment s f) z
-    (λ told t e. known_of l c.args.file (file_length c.args.table.now c.args.file) c.args.part c.args.want.now d t (g.met.D.CacheDoor.at_rest c.args.door.now) e c.requires.free c.requires.own c.requires.want (c.length-length.ensures.whole told ∙ c.length-length.ensures.value))
+    (λ told t e. known_of l c.args.file (file_length c.args.table.now c.args.file) c.args.part c.args.want.now d t c.lesson.ensures.agrees e c.requires.free c.requires.own c.requires.want (c.length-length.ensures.whole told ∙ c.length-length.ensures.value))
     (entry_answers l s d f c.args.want.now (Held c.in-Ok-Held.region c.in-Ok-Held.gap) (rw c.in-Ok-Held.field-0-is at c.in-Ok-Held.ensures.answer) c.in-Ok-Held.ensures.state later)
     c.read_entered.ensures.part.goes.faults c.read_entered.ensures.part.goes.frame_faults (rw later.actor at c.in-Err-read_entered.ensures.exact)
 
@@ -113,7 +121,7 @@ returns-in-Ok-NoRoom-clause-outcome g c =
     let later = g.met.D.CacheDoor.later _ _ c.enter.ensures.stays in
     let z = moment (g.S.BlobSource.view c.direct.new.source) f in
     exactly_passed c.direct.result l d.actor c.args.file c.args.part c.args.want.now (c.args.part.start - c.args.want.now.sub.start) c.args.report.now c.direct.new.report (moment s d) (moment s f) z
-    (λ told t e. known_of l c.args.file (file_length c.args.table.now c.args.file) c.args.part c.args.want.now d t (g.met.D.CacheDoor.at_rest c.args.door.now) e c.requires.free c.requires.own c.requires.want (c.length-length.ensures.whole told ∙ c.length-length.ensures.value))
+    (λ told t e. known_of l c.args.file (file_length c.args.table.now c.args.file) c.args.part c.args.want.now d t c.lesson.ensures.agrees e c.requires.free c.requires.own c.requires.want (c.length-length.ensures.whole told ∙ c.length-length.ensures.value))
     (entry_answers l s d f c.args.want.now NoRoom (rw c.in-Ok-NoRoom.field-0-is at c.in-Ok-NoRoom.ensures.answer) c.in-Ok-NoRoom.ensures.state later)
     refl c.direct.ensures.source.failed c.direct.ensures.present (rw c.requires.len at c.direct.ensures.report) (λ told. rw c.requires.len at (c.direct.ensures.reads told))
 
@@ -125,7 +133,7 @@ returns-in-Ok-Gone-clause-outcome g c =
     let f = g.D.CacheDoor.view c.enter.new.self in
     let later = g.met.D.CacheDoor.later _ _ c.enter.ensures.stays in
     exactly_entered_gone l d.actor c.args.file c.args.part c.args.want.now (c.args.part.start - c.args.want.now.sub.start) _ c.args.report.now (moment s d) (moment s f)
-    (λ told t e. known_of l c.args.file (file_length c.args.table.now c.args.file) c.args.part c.args.want.now d t (g.met.D.CacheDoor.at_rest c.args.door.now) e c.requires.free c.requires.own c.requires.want (c.length-length.ensures.whole told ∙ c.length-length.ensures.value))
+    (λ told t e. known_of l c.args.file (file_length c.args.table.now c.args.file) c.args.part c.args.want.now d t c.lesson.ensures.agrees e c.requires.free c.requires.own c.requires.want (c.length-length.ensures.whole told ∙ c.length-length.ensures.value))
     (entry_answers l s d f c.args.want.now Gone (rw c.in-Ok-Gone.field-0-is at c.in-Ok-Gone.ensures.answer) c.in-Ok-Gone.ensures.state later)
 
 pub returns-in-Err-clause-outcome : goal.returns-in-Err-clause-outcome
@@ -138,4 +146,4 @@ returns-in-Ok-true-clause-fits g c =
     last_kept c.args.setting.now.mount c.args.setting.now.time (Some last) (g.D.CacheDoor.view c.enter.new.self).state (g.D.CacheDoor.view c.read_entered.new.door).state c.read_entered.ensures.kept
     (subst (λ o. LastFits c.args.setting.now.mount c.args.setting.now.time (Some last) o) (sym c.in-Ok-Held.ensures.state)
     (entered_fits {tells = g.A.Archive.tells} {files = content g.A.Archive.blobs} a c.args.setting.now.mount c.args.setting.now.time c.args.want.now c.in-Ok-Held.region c.in-Ok-Held.gap (g.D.CacheDoor.view c.args.door.now).state
-    (λ s e. (at_rest g.A.Archive.tells (content g.A.Archive.blobs) (g.D.CacheDoor.view c.args.door.now) s (g.met.D.CacheDoor.at_rest c.args.door.now) e).good) (rw c.in-Ok-Held.field-0-is at c.in-Ok-Held.ensures.answer)))
+    (λ s e. (at_rest g.A.Archive.tells (content g.A.Archive.blobs) (g.D.CacheDoor.view c.args.door.now) s c.lesson.ensures.agrees e).good) (rw c.in-Ok-Held.field-0-is at c.in-Ok-Held.ensures.answer)))

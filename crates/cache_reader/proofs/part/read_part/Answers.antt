@@ -44,7 +44,7 @@ returns-then-glance_last-clause-entries g c =
     let w = c.want_at-want.result in
     entries_glanced {tells = g.A.Archive.tells} {files = content g.A.Archive.blobs} l a c.args.file c.args.part w (c.args.part.start - w.sub.start) (length c.glance_last.new.out) c.args.last.now c.args.setting.now.config _ c.args.report.now c.copy.new.self x y
     (λ told. told)
-    (λ told s e. known_of l c.args.file (file_length c.args.table.now c.args.file) c.args.part w (g.D.CacheDoor.view c.args.door.now) s (g.met.D.CacheDoor.at_rest c.args.door.now) e c.requires.free c.requires.own c.want_at-want.ensures.value (c.length-length.ensures.whole told ∙ c.length-length.ensures.value))
+    (λ told s e. known_of l c.args.file (file_length c.args.table.now c.args.file) c.args.part w (g.D.CacheDoor.view c.args.door.now) s c.lesson.ensures.agrees e c.requires.free c.requires.own c.want_at-want.ensures.value (c.length-length.ensures.whole told ∙ c.length-length.ensures.value))
     (c.glance_last.ensures.looked c.if-glance_last.true) c.requires.fits refl c.want_at-want.ensures.wanted c.want_at-want.ensures.whole c.copy.ensures refl c.glance_last.ensures.same
 
 pub returns-clause-entries : goal.returns-clause-entries

@@ -1,4 +1,4 @@
-use Rattle.std.proofs.Common.{arith, rules, ◌≡◌, ◌≤◌, ◌+◌, ◌-◌, ◌∙◌, length, Some, ap, sym, subst, refl}
+use Rattle.std.proofs.Common.{arith, rules, ◌≡◌, ◌≤◌, ◌+◌, ◌-◌, ◌∙◌, length, false, Some, ap, sym, subst, refl}
 use borrow.Rule.Slice.PartMut.{mid_of}
 use Rattle.std.proofs.lemmas.Slice.{drop-put_mid}
 use Rattle.blob_parts.specs.Content.{content, slice_of}
@@ -70,7 +70,7 @@ loop-done-preserved g c =
           (read_to_more l a c.args.file range c.args.at (c.args.at + c.loop-done.done) end c.part_from-part.result c.loop-done.invariant.part.counts c.in-Ok.ensures.part.counts c.args.report.now c.loop-done.report c.read_part.new.report x y z
           c.requires.limits.range.0 (omega arith) c.part_from-part.ensures.start c.part_from-part.ensures.end c.loop-done.invariant.part.goes c.in-Ok.ensures.part.goes
           (rw act at c.in-Ok.ensures.entries) c.loop-done.invariant.entries);
-      part = parts_more _ c.loop-done.done n (c.loop-done.done + n) _ _ _ _ _ _ _ _ c.loop-done.invariant.part c.in-Ok.ensures.part refl;
+      part = parts_more _ c.loop-done.done n (c.loop-done.done + n) _ _ _ _ _ _ _ c.loop-done.invariant.part c.in-Ok.ensures.part refl;
     }
 
 pub returns-in-Err-clause-cause : goal.returns-in-Err-clause-cause
@@ -140,12 +140,12 @@ returns-in-Err-clause-entries g c =
     let mount = c.args.setting.now.mount in
     entries_refused (Unit {0}) c.in-Err.e l a c.args.file range c.args.at (c.args.at + c.loop-done.done) end c.part_from-part.result c.loop-done.invariant.part.counts c.in-Err.ensures.part.counts c.args.report.now c.loop-done.report c.read_part.new.report x y z
     c.requires.limits.range.0 (omega arith) c.part_from-part.ensures.start c.part_from-part.ensures.end c.loop-done.invariant.part.goes c.in-Err.ensures.part.goes
-    c.in-Err.ensures.cause (λ seen t e. sym ((at_rest g.A.Archive.tells (content g.A.Archive.blobs) (g.D.CacheDoor.view c.read_part.new.door) t (g.met.D.CacheDoor.at_rest c.read_part.new.door) e).gone mount).0 ∙ seen) (rw act at c.in-Err.ensures.entries) c.loop-done.invariant.entries
+    c.in-Err.ensures.cause (λ seen t e. sym ((at_rest g.A.Archive.tells (content g.A.Archive.blobs) (g.D.CacheDoor.view c.read_part.new.door) t c.lesson-in-Err.ensures.agrees e).gone mount).0 ∙ seen) (rw act at c.in-Err.ensures.entries) c.loop-done.invariant.entries
 
 pub returns-in-Err-clause-exact : goal.returns-in-Err-clause-exact
 returns-in-Err-clause-exact g c =
     exactly_entries _ (g.D.CacheDoor.view c.args.door.now).actor (record { file = c.args.file; at = c.args.at; size = length c.args.out.now }) _ _ _ _ _
-    (λ s e. (at_rest g.A.Archive.tells (content g.A.Archive.blobs) (g.D.CacheDoor.view c.args.door.now) s (g.met.D.CacheDoor.at_rest c.args.door.now) e).config ∙ c.requires.own)
+    (λ s e. (at_rest g.A.Archive.tells (content g.A.Archive.blobs) (g.D.CacheDoor.view c.args.door.now) s c.lesson.ensures.agrees e).config ∙ c.requires.own)
     (returns-in-Err-clause-entries g c)
 
 pub returns-clause-entries : goal.returns-clause-entries
@@ -162,7 +162,7 @@ returns-clause-entries g c =
 pub returns-clause-exact : goal.returns-clause-exact
 returns-clause-exact g c =
     exactly_entries _ (g.D.CacheDoor.view c.args.door.now).actor (record { file = c.args.file; at = c.args.at; size = length c.args.out.now }) _ _ _ _ _
-    (λ s e. (at_rest g.A.Archive.tells (content g.A.Archive.blobs) (g.D.CacheDoor.view c.args.door.now) s (g.met.D.CacheDoor.at_rest c.args.door.now) e).config ∙ c.requires.own)
+    (λ s e. (at_rest g.A.Archive.tells (content g.A.Archive.blobs) (g.D.CacheDoor.view c.args.door.now) s c.lesson.ensures.agrees e).config ∙ c.requires.own)
     (returns-clause-entries g c)
 
 pub returns-in-Err-clause-stays : goal.returns-in-Err-clause-stays
