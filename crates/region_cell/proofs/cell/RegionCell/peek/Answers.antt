@@ -1,5 +1,5 @@
-use Rattle.std.proofs.Common.{arith, ◌≡◌, ◌≤◌, ◌<◌, ◌-◌, ◌∙◌, sym, ap, ℕ}
-use Rattle.std.specs.Prelude.{IsTrue, OnOk, take, drop}
+use Rattle.std.proofs.Common.{◌∙◌, sym, ap, ℕ}
+use Rattle.std.specs.Prelude.{take, drop}
 use Rattle.region_cell.proofs.Kept.{read_kept, ok_then, ok_under}
 use Rattle.region_cell.proofs.cell.RegionCell.peek.Goals as goal
 
