@@ -1,7 +1,5 @@
-use Rattle.std.proofs.Common.{arith, ◌≡◌, ◌≤◌, ◌<◌, ◌-◌, ◌+◌, ◌%◌, ◌∙◌, sym, ap, ℕ, refl, Fits, w32, length, List}
-use Rattle.std.specs.Prelude.{IsTrue, OnOk, OnErr, IfSome, take, drop}
-use Rattle.cache_outside.specs.Frames.{put_at, SameOutside}
-use Rattle.sparse_tracker.specs.ByteStates.{gap_of, progress, Tracker, TrackerView}
+use Rattle.std.proofs.Common.{arith, ◌≡◌, ◌+◌, ◌%◌, ◌∙◌, ap, ℕ, length}
+use Rattle.sparse_tracker.specs.ByteStates.{progress, Tracker, TrackerView}
 use Rattle.region_cell.specs.Cells.{Region, tag_at}
 use Rattle.region_cell.proofs.Kept.{put_of, kept_stored, kept_unstored, err_any, outside_as, put_as}
 use Rattle.region_cell.proofs.cell.RegionCell.store.Goals as goal
