@@ -1,18 +1,9 @@
-// Worked texts of stored fields and of live documents, read.
-ghost use Rattle.std.specs.Prelude.{◌≡◌, length, IfOk};
-
-use crate::{Kind, StoredError, StoredIndex, TextError, live};
-use directory_input::{BytesError, Input, MemBytes};
-use std::alloc::{AllocError, Global};
-use std::process::Abort;
+//! Worked texts of stored fields and of live documents, read.
+use crate::samples::{LIVE, STORED, file_of, line_start};
+use directory_input::{BytesError, Input};
+use simpletext_stored::{Kind, StoredError, StoredIndex, TextError, live};
+use std::alloc::Global;
 use std::test::Fail;
-
-/// Three documents, the first with a title.
-const STORED: &[u8] =
-    b"doc 0\n  field 0\n    name title\n    type string\n    value red fox\ndoc 1\ndoc 2\nEND\nchecksum 00000000000000000000\n";
-
-/// Documents 0 and 2 of three.
-const LIVE: &[u8] = b"size 3\n  doc 0\n  doc 2\nEND\nchecksum 00000000000000000000\n";
 
 // A missing proof of `Send` or `Sync` shows here, and not first at the threads above.
 fn crosses<T: Send + Sync>() {}
@@ -21,18 +12,9 @@ fn indexes_cross() {
     crosses::<StoredIndex>()
 }
 
-/// One file of these bytes.
-fn file_of(alloc: Global, bytes: &[u8]) -> Result<MemBytes, AllocError>
-    ensures { IfOk result (λ m. length m.files ≡ 1) }
-{
-    let mut files = MemBytes::new(alloc);
-    files.add(bytes.to_vec(alloc)?)?;
-    Ok(files)
-}
-
 /// The place of the first line of a text of stored fields that is not allowed.
 fn bad_place(alloc: Global, bytes: &[u8], docs: u32) -> Result<Option<u64>, TextError> {
-    let mut files = file_of(alloc, bytes)?;
+    let mut files = file_of(alloc, bytes, 0)?;
     let input = Input::open(&files, 0);
     match StoredIndex::open(alloc, &mut files, input, docs) {
         Ok(_) => Ok(None),
@@ -43,7 +25,7 @@ fn bad_place(alloc: Global, bytes: &[u8], docs: u32) -> Result<Option<u64>, Text
 
 /// The place of the first line of a text of live documents that is not allowed.
 fn bad_live_place(alloc: Global, bytes: &[u8], docs: u32) -> Result<Option<u64>, TextError> {
-    let mut files = file_of(alloc, bytes)?;
+    let mut files = file_of(alloc, bytes, 0)?;
     let input = Input::open(&files, 0);
     match live(alloc, &mut files, input, docs) {
         Ok(_) => Ok(None),
@@ -52,23 +34,10 @@ fn bad_live_place(alloc: Global, bytes: &[u8], docs: u32) -> Result<Option<u64>,
     }
 }
 
-/// Where the last line that begins in these bytes begins; none of them is escaped.
-fn line_start(bytes: &[u8]) -> u64 {
-    let mut start: u64 = 0;
-    let mut place: u64 = 0;
-    for byte in bytes {
-        place = place.saturating_add(1);
-        if *byte == b'\n' {
-            start = place;
-        }
-    }
-    start
-}
-
 #[test]
 fn fetches(rt: HostRuntime) -> Result<(), Fail> {
     let alloc = rt.alloc();
-    let mut files = file_of(alloc, STORED)?;
+    let mut files = file_of(alloc, STORED, 0)?;
     let input = Input::open(&files, 0);
     let index = StoredIndex::open(alloc, &mut files, input, 3)?;
     assert_eq!(rt; files.reads(), 1);
@@ -93,7 +62,7 @@ fn fetches(rt: HostRuntime) -> Result<(), Fail> {
 fn lists_live_documents(rt: HostRuntime) -> Result<(), Fail> {
     let alloc = rt.alloc();
     assert_eq!(rt; LIVE.len(), 57);
-    let mut files = file_of(alloc, LIVE)?;
+    let mut files = file_of(alloc, LIVE, 0)?;
     let input = Input::open(&files, 0);
     let bits = live(alloc, &mut files, input, 3)?;
     assert!(rt; bits.get(0) && !bits.get(1) && bits.get(2));
@@ -104,8 +73,7 @@ fn lists_live_documents(rt: HostRuntime) -> Result<(), Fail> {
 #[test]
 fn answers_after_a_fault(rt: HostRuntime) -> Result<(), Fail> {
     let alloc = rt.alloc();
-    let mut files = file_of(alloc, STORED)?;
-    files.fail_at(2)?;
+    let mut files = file_of(alloc, STORED, 2)?;
     let input = Input::open(&files, 0);
     let index = StoredIndex::open(alloc, &mut files, input, 3)?;
     let fault = matches!(

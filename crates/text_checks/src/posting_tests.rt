@@ -1,21 +1,35 @@
-// Worked texts, opened and looked up.
-ghost use Rattle.std.specs.Prelude.{◌≡◌, length, IfOk};
+//! Worked texts of postings, opened, looked up and written.
+ghost use Rattle.std.specs.Prelude.{◌≡◌, IfOk, ◌∷◌, [], codes};
 
-use crate::{Dictionary, Positions};
-use directory_input::{BytesError, Input, MemBytes};
+use crate::samples::{POSTINGS, file_of, line_start};
+use byte_text::Text;
+use directory_input::{BytesError, Input};
+use simpletext_postings::{Dictionary, Positions, Row, Rows, write};
 use std::alloc::{AllocError, Global};
-use std::process::Abort;
 use std::test::Fail;
 use text_lines::TextError;
 
-/// Three documents: `fox` in the first and the last, `red` in the first.
-const WORKED: &[u8] =
-    b"field body\n  term fox\n    doc 0\n      freq 1\n      pos 1\n    doc 2\n      freq 1\n      pos 0\n  term red\n    doc 0\n      freq 1\n      pos 0\nEND\nchecksum 00000000000000000000\n";
-
 /// Lines of offsets, payloads and terms with a newline and a backslash in them, lines that are passed over, and a
 /// number with leading zeros.
-const OFFSETS: &[u8] =
-    b"field f\n  term a\\\nb\n    skipList \n    doc 7\n      freq 2\n      pos 4\n      startOffset 1\n    child 3\n      endOffset 2\n        payload x\\\ny\n      pos 4\n        payload \\\\\n  term c\\\\\n    doc 0002147483\nEND\nchecksum 00000000000000000000\n";
+const OFFSETS: &[u8] = b"field f
+  term a\\
+b
+    skipList 
+    doc 7
+      freq 2
+      pos 4
+      startOffset 1
+    child 3
+      endOffset 2
+        payload x\\
+y
+      pos 4
+        payload \\\\
+  term c\\\\
+    doc 0002147483
+END
+checksum 00000000000000000000
+";
 
 // A missing proof of `Send` or `Sync` shows here, and not first at the threads above.
 fn crosses<T: Send + Sync>() {}
@@ -24,37 +38,15 @@ fn dictionaries_cross() {
     crosses::<Dictionary>()
 }
 
-/// One file of these bytes.
-fn file_of(alloc: Global, bytes: &[u8]) -> Result<MemBytes, AllocError>
-    ensures { IfOk result (λ m. length m.files ≡ 1) }
-{
-    let mut files = MemBytes::new(alloc);
-    files.add(bytes.to_vec(alloc)?)?;
-    Ok(files)
-}
-
 /// The place of the first line of a postings text that is not allowed.
 fn bad_place(alloc: Global, bytes: &[u8], docs: u32) -> Result<Option<u64>, TextError> {
-    let mut files = file_of(alloc, bytes)?;
+    let mut files = file_of(alloc, bytes, 0)?;
     let input = Input::open(&files, 0);
     match Dictionary::open(alloc, &mut files, input, docs) {
         Ok(_) => Ok(None),
         Err(TextError::Bad { at }) => Ok(Some(at)),
         Err(e) => Err(e),
     }
-}
-
-/// Where the last line that begins in these bytes begins; none of them is escaped.
-fn line_start(bytes: &[u8]) -> u64 {
-    let mut start: u64 = 0;
-    let mut place: u64 = 0;
-    for byte in bytes {
-        place = place.saturating_add(1);
-        if *byte == b'\n' {
-            start = place;
-        }
-    }
-    start
 }
 
 fn first(positions: &Positions) -> Option<u32> {
@@ -68,8 +60,8 @@ fn first(positions: &Positions) -> Option<u32> {
 #[test]
 fn finds_documents(rt: HostRuntime) -> Result<(), Fail> {
     let alloc = rt.alloc();
-    assert_eq!(rt; WORKED.len(), 172);
-    let mut files = file_of(alloc, WORKED)?;
+    assert_eq!(rt; POSTINGS.len(), 172);
+    let mut files = file_of(alloc, POSTINGS, 0)?;
     let input = Input::open(&files, 0);
     let dictionary = Dictionary::open(alloc, &mut files, input, 3)?;
     assert_eq!(rt; files.reads(), 1);
@@ -90,7 +82,7 @@ fn finds_documents(rt: HostRuntime) -> Result<(), Fail> {
 #[test]
 fn reads_every_form(rt: HostRuntime) -> Result<(), Fail> {
     let alloc = rt.alloc();
-    let mut files = file_of(alloc, OFFSETS)?;
+    let mut files = file_of(alloc, OFFSETS, 0)?;
     let input = Input::open(&files, 0);
     let dictionary = Dictionary::open(alloc, &mut files, input, 2_147_484)?;
     let found = dictionary.postings(&mut files, b"f", b"a\nb")?;
@@ -107,8 +99,8 @@ fn reads_every_form(rt: HostRuntime) -> Result<(), Fail> {
 #[test]
 fn names_where_a_front_ends(rt: HostRuntime) -> Result<(), Fail> {
     let alloc = rt.alloc();
-    for end in 0..WORKED.len() {
-        let front = &WORKED[..end];
+    for end in 0..POSTINGS.len() {
+        let front = &POSTINGS[..end];
         assert_eq!(rt;
             bad_place(alloc, front, 3)?,
             Some(line_start(front)),
@@ -159,8 +151,7 @@ fn names_bad_lines(rt: HostRuntime) -> Result<(), Fail> {
 #[test]
 fn answers_after_a_fault(rt: HostRuntime) -> Result<(), Fail> {
     let alloc = rt.alloc();
-    let mut files = file_of(alloc, WORKED)?;
-    files.fail_at(2)?;
+    let mut files = file_of(alloc, POSTINGS, 2)?;
     let input = Input::open(&files, 0);
     let dictionary = Dictionary::open(alloc, &mut files, input, 3)?;
     let fault = matches!(
@@ -179,5 +170,61 @@ fn positions_in_order(rt: HostRuntime) -> Result<(), AllocError> {
     positions.push(7)?;
     assert_eq!(rt; positions.len(), 2);
     assert_eq!(rt; *positions.get(1), 7);
+    Ok(())
+}
+
+const ESCAPED: &[u8] = b"field f\n  term a\\\nb\n    doc 0\nEND\nchecksum 00000000000000000000\n";
+
+/// A row of `body` with one position.
+fn body_row(alloc: Global, term: &[u8], doc: u32, position: u32) -> Result<Row, AllocError>
+    ensures { IfOk result (λ r. r
+        ≡ record { field = codes "body"; term = term.now; doc = doc; positions = position ∷ [] }) }
+{
+    let mut positions = Positions::new(alloc);
+    positions.push(position)?;
+    Ok(Row {
+        field: Text::of(alloc, b"body")?,
+        term: Text::of(alloc, term)?,
+        doc,
+        positions,
+    })
+}
+
+#[test]
+fn writes_positions(rt: HostRuntime) -> Result<(), AllocError> {
+    let alloc = rt.alloc();
+    let mut rows = Rows::new(alloc, 3);
+    rows.push(body_row(alloc, b"fox", 0, 1)?)?;
+    rows.push(body_row(alloc, b"fox", 2, 0)?)?;
+    rows.push(body_row(alloc, b"red", 0, 0)?)?;
+    let text = write(alloc, &rows)?;
+    assert_eq!(rt; text.as_bytes().len(), 172);
+    assert_eq!(rt; text.as_bytes(), POSTINGS);
+    Ok(())
+}
+
+#[test]
+fn writes_no_rows(rt: HostRuntime) -> Result<(), AllocError> {
+    let rows = Rows::new(rt.alloc(), 0);
+    let text = write(rt.alloc(), &rows)?;
+    assert_eq!(rt;
+        text.as_bytes(),
+        b"END\nchecksum 00000000000000000000\n".as_slice()
+    );
+    Ok(())
+}
+
+#[test]
+fn writes_escapes(rt: HostRuntime) -> Result<(), AllocError> {
+    let alloc = rt.alloc();
+    let mut rows = Rows::new(alloc, 1);
+    rows.push(Row {
+        field: Text::of(alloc, b"f")?,
+        term: Text::of(alloc, b"a\nb")?,
+        doc: 0,
+        positions: Positions::new(alloc),
+    })?;
+    let text = write(alloc, &rows)?;
+    assert_eq!(rt; text.as_bytes(), ESCAPED);
     Ok(())
 }

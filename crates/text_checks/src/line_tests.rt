@@ -1,35 +1,75 @@
+//! Inputs, lines, escapes and numbers.
 ghost use Rattle.std.specs.Prelude.{◌<◌};
 
-use crate::{Line, LineError, LineReader, escape, unescape};
-use directory_input::{BytesError, Input, MemBytes};
+use crate::samples::file_of;
+use directory_input::{BytesError, FileBytes, Input, InputError, MemBytes};
 use std::alloc::Global;
 use std::process::Abort;
 use std::test::Fail;
+use text_lines::{Line, LineError, LineReader, escape, is_checksum, number, unescape};
 
 #[test]
-fn escapes(rt: HostRuntime) -> Result<(), Fail> {
-    let escaped = escape(rt.alloc(), b"a\n\\")?;
+fn escapes_and_numbers(rt: HostRuntime) -> Result<(), Fail> {
+    let alloc = rt.alloc();
+    let escaped = escape(alloc, b"a\n\\")?;
     assert_eq!(rt; escaped.as_bytes(), b"a\\\n\\\\".as_slice());
-    let Some(text) = unescape(rt.alloc(), escaped.as_bytes())? else {
-        assert!(rt; false, "it is escaped");
-        return Ok(());
-    };
-    assert_eq!(rt; text.as_bytes(), b"a\n\\".as_slice());
-    assert!(rt; unescape(rt.alloc(), b"\\")?.is_none());
+    let back = unescape(alloc, escaped.as_bytes())?;
+    assert!(rt; back.is_some_and(|text| text.as_bytes() == b"a\n\\".as_slice()));
+    assert!(rt; unescape(alloc, b"\\")?.is_none());
+    assert!(rt; unescape(alloc, b"a\nb")?.is_none());
+    assert_eq!(rt; number(b"0002147483647"), None);
+    assert_eq!(rt; number(b"2147483647"), Some(2_147_483_647));
+    assert_eq!(rt; number(b"2147483648"), None);
+    assert_eq!(rt; number(b""), None);
+    assert!(rt; is_checksum(b"checksum 00000000001234567890"));
+    assert!(rt; !is_checksum(b"checksum 0000000000123456789"));
+    Ok(())
+}
+
+/// A window of four bytes of six, a part of it, its end and what lies behind it.
+#[test]
+fn windows(rt: HostRuntime) -> Result<(), Fail> {
+    let alloc = rt.alloc();
+    let mut files = file_of(alloc, b"abcdef", 2)?;
+    assert_eq!(rt; files.len(0), 6);
+    let whole = Input::open(&files, 0);
+    let mut part = whole.slice(1, 4)?;
+    assert_eq!(rt; part.len(), 4);
+    let past = matches!(part.slice(3, 2), Err(InputError::PastEnd { at: 3, len: 4 }));
+    assert!(rt; past);
+    let mut two = vec![in alloc; 0u8; 2]?;
+    part.read(&mut files, two.as_mut_slice())?;
+    assert_eq!(rt; two.as_slice(), b"bc".as_slice());
+    let failed = matches!(
+        part.read(&mut files, two.as_mut_slice()),
+        Err(InputError::Bytes(BytesError::Fault))
+    );
+    assert!(rt; failed);
+    assert_eq!(rt; files.faults(), 1);
+    assert_eq!(rt; part.pos(), 2);
+    part.seek(4)?;
+    let end = matches!(
+        part.read(&mut files, two.as_mut_slice()),
+        Err(InputError::PastEnd { at: 4, len: 4 })
+    );
+    assert!(rt; end);
+    let behind = matches!(part.seek(5), Err(InputError::PastEnd { at: 5, len: 4 }));
+    assert!(rt; behind);
+    assert_eq!(rt; files.reads(), 2);
     Ok(())
 }
 
 fn shows(
     rt: &impl Abort,
     answer: Result<Option<Line>, LineError>,
-    wanted: Result<Option<(u64, &[u8])>, LineError>,
+    expected: Result<Option<(u64, &[u8])>, LineError>,
 ) {
     match answer {
         Ok(Some(line)) => {
-            assert!(rt; wanted == Ok(Some((line.at, line.content.as_bytes()))));
+            assert!(rt; expected == Ok(Some((line.at, line.content.as_bytes()))));
         }
-        Ok(None) => assert!(rt; wanted == Ok(None)),
-        Err(e) => assert!(rt; wanted == Err(e)),
+        Ok(None) => assert!(rt; expected == Ok(None)),
+        Err(e) => assert!(rt; expected == Err(e)),
     }
 }
 
