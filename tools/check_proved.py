@@ -6,7 +6,7 @@ In a table of docs/PROVED.md, and of each crates/NAME/README.md with a column 'c
   clause   `crate::Type::call (clause, clause)`: the function or trait method has an `ensures` clause of each name;
            `ensures` alone is a clause without a name. In a crate's own page the crate may be left out, and the
            calls may stand in a column 'call' of their own, each clause being one of some call named there;
-           what stands in parentheses there is passed over. A trait stands for all its calls and for its laws,
+           what stands in parentheses there is passed over, and an empty cell stands for the calls above. A trait stands for all its calls and for its laws,
            and the calls of a type that implements a trait have the trait's clauses
   edit     `crate/edit`: crates/crate/must-fail/edit.edit is there
   test     `crate::test`: a #[test] function; `crate/proofs/File`: a file of worked examples that the prover computes;
@@ -54,6 +54,9 @@ def functions_of(file):
         law = re.match(r"^\s+ghost ([a-z0-9_]+): \{", line)
         if law and trait:
             trait.clauses.add(law.group(1))
+        given = re.match(r"^\s+ghost ([a-z0-9_]+) = \{", line)
+        if given and owner:
+            found.append(Function(owner, "", {given.group(1)}, False))
         if line.strip() == "#[test]":
             test = True
         name = re.match(r"^\s*(?:pub(?:\([a-z]+\))? )?(?:unsafe )?(?:const )?fn ([a-z0-9_]+)", line)
@@ -88,7 +91,8 @@ class Repository:
     def clauses_of(self, function):
         """The clauses of a function, those of the trait whose method it implements among them."""
         traits = [self.traits[name] for name in function.owner if name in self.traits]
-        return function.clauses.union(*(t.clauses for t in traits))
+        given = [f for fs in self.functions.values() for f in fs if f.name == "" and function.owner and f.owner == function.owner]
+        return function.clauses.union(*(t.clauses for t in traits), *(f.clauses for f in given))
 
     def of_path(self, path):
         """The functions that a path names: of the crate, and of the type where one is named."""
@@ -168,9 +172,11 @@ def check(repository, page, crate):
         named = "::" in path and path.split("::")[0] in repository.functions
         return path if named or not crate else f"{crate}::{path}"
 
+    calls = []
     for number, row in rows_of(page):
         if "call" in row:
-            calls = [whole(c) for c in re.findall(r"`([^`]+)`", row["call"])]
+            # (an empty cell stands for the calls of the row above)
+            calls = [whole(c) for c in re.findall(r"`([^`]+)`", row["call"])] or calls
             for call in calls:
                 note(number, call, repository.lacks_call(call))
             for name in re.findall(r"`([^`]+)`", re.sub(r"\([^)]*\)", "", row.get("clause", ""))):
