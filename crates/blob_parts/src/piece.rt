@@ -53,7 +53,7 @@ impl<A: Archive> Piece<A> {
     /// Its bytes.
     pub fn bytes(&self) -> &[u8]
         ensures value { result.now ≡ self.now.bytes }
-        ensures told { IsTrue A.tells → IsPiece A.blobs self.now }
+        ensures content { IsTrue A.tells → IsPiece A.blobs self.now }
     {
         self.bytes.as_bytes()
     }

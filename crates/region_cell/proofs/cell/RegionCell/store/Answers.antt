@@ -54,7 +54,7 @@ invariant_of-self-2 g c =
       i.0,
       c.put.ensures.frame.size ∙ i.1,
       i.2,
-      kept_stored _ _ _ i.3 c.lesson.ensures.tracker c.args.gap c.args.piece.now p.fit _ _ c.put.ensures.frame.size c.put.ensures.frame.tells (g.met.F.Frame.whole c.self.inside.frame) c.bytes-bytes.ensures.told (λ n. put_as _ _ _ _ _ _ p.at c.bytes-bytes.ensures.value (c.in_ok-put.ensures.put n)),
+      kept_stored _ _ _ i.3 c.lesson.ensures.tracker c.args.gap c.args.piece.now p.fit _ _ c.put.ensures.frame.size c.put.ensures.frame.tells (g.met.F.Frame.whole c.self.inside.frame) c.bytes-bytes.ensures.content (λ n. put_as _ _ _ _ _ _ p.at c.bytes-bytes.ensures.value (c.in_ok-put.ensures.put n)),
     )
 
 pub returns-clause-ok : goal.returns-clause-ok
