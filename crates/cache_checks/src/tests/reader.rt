@@ -115,13 +115,13 @@ const ACROSS: Case = (
 fn read_next<'a, A: Archive, D: CacheDoor<A>>(
     rt: &impl Abort,
     reader: &mut Reader<'a, A, D, MemSource<A>>,
-    case: Case,
+    at: u64,
+    wanted: &[u8],
 ) -> Result<Report, BytesError>
     requires { 0 < (⟦<Reader<'a, A, D, MemSource<A>> as FileBytes>⟧.view reader.old).count }
     ensures {
-        ⟦<Reader<'a, A, D, MemSource<A>> as FileBytes>⟧.goes_by (one_read 0 case.0 (length case.1.now)) reader.old reader.new }
+        ⟦<Reader<'a, A, D, MemSource<A>> as FileBytes>⟧.goes_by (one_read 0 at (length wanted.now)) reader.old reader.new }
 {
-    let (at, wanted) = case;
     let mut room = [0; 16];
     assert!(rt; wanted.len() <= 16);
     let out = &mut room[..wanted.len()];
@@ -150,7 +150,8 @@ fn read<A: Archive, D: CacheDoor<A>>(
 {
     assert!(rt; table.files() > 0);
     let mut reader = Reader::new(rt.alloc(), door, source, table, 0, config, 0);
-    let answer = read_next(rt, &mut reader, case);
+    let (at, wanted) = case;
+    let answer = read_next(rt, &mut reader, at, wanted);
     if let Ok(report) = answer {
         assert!(rt; reader.total() == report);
     }
@@ -273,11 +274,11 @@ fn a_second_part_that_fails(rt: HostRuntime) -> Result<(), Fail> {
     let mut door = core.door(0);
     let mut reader = Reader::new(alloc, &mut door, &mut source, &table, 0, &FOUR, 0);
     // read 2 fails: the first region; read 3 is the first region, and read 4, the second one, fails
-    assert!(rt; read_next(&rt, &mut reader, FRONT) == Err(BytesError::Fault));
+    assert!(rt; read_next(&rt, &mut reader, FRONT.0, FRONT.1) == Err(BytesError::Fault));
     assert_eq!(rt; reader.total(), report(0, 0, 0));
-    assert!(rt; read_next(&rt, &mut reader, ACROSS) == Err(BytesError::Fault));
+    assert!(rt; read_next(&rt, &mut reader, ACROSS.0, ACROSS.1) == Err(BytesError::Fault));
     assert_eq!(rt; reader.total(), report(6, 4096, 0));
-    assert!(rt; read_next(&rt, &mut reader, ACROSS) == Ok(report(16, 4096, 0)));
+    assert!(rt; read_next(&rt, &mut reader, ACROSS.0, ACROSS.1) == Ok(report(16, 4096, 0)));
     assert_eq!(rt; reader.total(), report(22, 8192, 0));
     Ok(())
 }
@@ -296,9 +297,9 @@ fn a_glance_comes_first(rt: HostRuntime) -> Result<(), Fail> {
     assert!(rt; core.hold_of(0).is_none());
     let mut door = core.door(0);
     let mut reader = Reader::new(alloc, &mut door, &mut source, &table, 0, &EAGER, 0);
-    assert!(rt; read_next(&rt, &mut reader, FRONT) == Ok(report(4, 4096, 0)));
-    assert!(rt; read_next(&rt, &mut reader, FRONT) == Ok(report(4, 0, 0)));
-    assert!(rt; read_next(&rt, &mut reader, (4092, &[0x4c, 0x4d])) == Ok(report(2, 0, 0)));
+    assert!(rt; read_next(&rt, &mut reader, FRONT.0, FRONT.1) == Ok(report(4, 4096, 0)));
+    assert!(rt; read_next(&rt, &mut reader, FRONT.0, FRONT.1) == Ok(report(4, 0, 0)));
+    assert!(rt; read_next(&rt, &mut reader, 4092, &[0x4c, 0x4d]) == Ok(report(2, 0, 0)));
     assert_eq!(rt; core.tally().promotions, 0);
     assert!(rt; core.hold_of(0).is_none());
     let mut door = core.door(0);
