@@ -8,7 +8,8 @@ In a table of docs/PROVED.md, and of each crates/NAME/README.md with a column 'c
            calls may stand in a column 'call' of their own, each clause being one of some call named there;
            what stands in parentheses there is passed over, and an empty cell stands for the calls above. A trait stands for all its calls and for its laws,
            and the calls of a type that implements a trait have the trait's clauses
-  edit     `crate/edit`: crates/crate/must-fail/edit.edit is there
+  edit     `crate/edit`: crates/crate/must-fail/edit.edit is there; in a crate's own page the crate may be left out,
+           here and of a test
   test     `crate::test`: a #[test] function; `crate/proofs/File`: a file of worked examples that the prover computes;
            `crate/stdout`: the program's stored run; `tools/file.py`: tests of a tool
 
@@ -188,7 +189,7 @@ def check(repository, page, crate):
         for name in re.findall(r"`([^`]+)`", row.get("edit", "")):
             note(number, name, repository.lacks_edit(name if "/" in name else f"{crate}/{name}"))
         for name in re.findall(r"`([^`]+)`", row.get("test", "")):
-            note(number, name, repository.lacks_test(name))
+            note(number, name, repository.lacks_test(name if re.search("::|/", name) else f"{crate}::{name}"))
     return wrong, count
 
 
