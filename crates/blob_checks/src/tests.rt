@@ -198,7 +198,11 @@ fn sources_that_fail(rt: HostRuntime) -> Result<(), Fail> {
         );
         assert!(rt; matches!(resolved, Err(ResolveError::Fault)));
     }
-    let mut source = source(alloc, 4096, vec![in alloc; (SourceCall::Read, 3), (SourceCall::Read, 4)]?)?;
+    let mut source = source(
+        alloc,
+        4096,
+        vec![in alloc; (SourceCall::Read, 3), (SourceCall::Read, 4)]?,
+    )?;
     let Some(table) = example_table(&rt, alloc, &mut source) else {
         assert!(rt; false);
         return Ok(());
@@ -206,8 +210,16 @@ fn sources_that_fail(rt: HostRuntime) -> Result<(), Fail> {
     assert!(rt; table.files() > 1 && table.length(1) == 6);
     let mut out = [0; 6];
     // the second of two parts fails, then the first
-    assert_eq!(rt; read_into(&mut source, &table, 1, 0, &mut out), Err(FetchError::Fault));
-    assert!(rt; matches!(fetch(alloc, &mut source, &table, 1, 0, 6), Err(FetchError::Fault)));
+    assert_eq!(rt;
+        read_into(&mut source, &table, 1, 0, &mut out),
+        Err(FetchError::Fault)
+    );
+    assert!(rt;
+        matches!(
+            fetch(alloc, &mut source, &table, 1, 0, 6),
+            Err(FetchError::Fault)
+        )
+    );
     let mut bytes = DirectBytes::<Example, MemSource<Example>>::new(&mut source, &table);
     assert_eq!(rt; bytes.read(1, 0, &mut out), Ok(()));
     assert_eq!(rt; out.as_slice(), b"abcdef".as_slice());

@@ -84,15 +84,27 @@ fn mounts_are_found_under_their_names(rt: HostRuntime) -> Result<(), Fail> {
         ("mount-a", "x", Err(RosterError::NameTaken)),
         ("mount-b", "y", Ok(2)),
     ] {
-        assert_eq!(rt; mount(alloc, &mut source, &mut roster, manifest, name), wanted);
+        assert_eq!(rt;
+            mount(alloc, &mut source, &mut roster, manifest, name),
+            wanted
+        );
     }
     assert_eq!(rt; found(alloc, &roster, "x"), Some((0, 1, 3)));
     assert_eq!(rt; found(alloc, &roster, "a"), Some((1, 0, 3)));
-    assert_eq!(rt; unmount(alloc, &mut roster, "z"), Err(RosterError::NotMounted));
+    assert_eq!(rt;
+        unmount(alloc, &mut roster, "z"),
+        Err(RosterError::NotMounted)
+    );
     assert_eq!(rt; unmount(alloc, &mut roster, "x"), Ok(0));
-    assert_eq!(rt; unmount(alloc, &mut roster, "x"), Err(RosterError::NotMounted));
+    assert_eq!(rt;
+        unmount(alloc, &mut roster, "x"),
+        Err(RosterError::NotMounted)
+    );
     assert_eq!(rt; found(alloc, &roster, "x"), None);
-    assert_eq!(rt; mount(alloc, &mut source, &mut roster, "mount-a", "x"), Ok(3));
+    assert_eq!(rt;
+        mount(alloc, &mut source, &mut roster, "mount-a", "x"),
+        Ok(3)
+    );
     assert_eq!(rt; found(alloc, &roster, "x"), Some((3, 0, 3)));
     assert_eq!(rt; found(alloc, &roster, "y"), Some((2, 1, 3)));
     Ok(())
@@ -106,7 +118,10 @@ fn a_roster_is_full(rt: HostRuntime) -> Result<(), Fail> {
     let mut roster = Roster::new(alloc);
     for number in 0..4096 {
         assert_eq!(rt; check(alloc, &roster, "x"), Ok(()));
-        assert_eq!(rt; mount(alloc, &mut source, &mut roster, "mount-a", "x"), Ok(number));
+        assert_eq!(rt;
+            mount(alloc, &mut source, &mut roster, "mount-a", "x"),
+            Ok(number)
+        );
         if number < 4095 {
             assert_eq!(rt; unmount(alloc, &mut roster, "x"), Ok(number));
         }
@@ -114,7 +129,10 @@ fn a_roster_is_full(rt: HostRuntime) -> Result<(), Fail> {
     assert_eq!(rt; check(alloc, &roster, "x"), Err(RosterError::NameTaken));
     assert_eq!(rt; unmount(alloc, &mut roster, "x"), Ok(4095));
     assert_eq!(rt; check(alloc, &roster, "x"), Err(RosterError::Full));
-    assert_eq!(rt; mount(alloc, &mut source, &mut roster, "mount-a", "x"), Err(RosterError::Full));
+    assert_eq!(rt;
+        mount(alloc, &mut source, &mut roster, "mount-a", "x"),
+        Err(RosterError::Full)
+    );
     assert_eq!(rt; found(alloc, &roster, "x"), None);
     Ok(())
 }

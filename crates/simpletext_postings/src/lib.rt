@@ -19,4 +19,3 @@ pub use positions::Positions;
 pub use posting::Posting;
 pub use rows::{Row, Rows};
 pub use writing::write;
-

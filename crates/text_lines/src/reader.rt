@@ -95,7 +95,7 @@ impl Model for LineReader {
 
     ghost Value = { Reading };
 
-    ghost view = { λ r. 
+    ghost view = { λ r.
         record { input = moved_to r.place r.input; ahead = take (r.till - r.from) (drop r.from r.buffer.items) } };
 
     ghost invariant = { λ r. IsBuffered r.input r.place (length r.buffer.items) r.from r.till };
