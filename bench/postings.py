@@ -2,9 +2,10 @@
 """Times the built program on a large postings file.
 
 Writes an archive of one segment whose postings text has about MEGABYTES million bytes, as blobs into a new folder, and
-runs `term` on it. Prints how many bytes the text has, and for each run the seconds, the million bytes a second and the
-greatest memory of the process (at least that of this script, which starts it). The program is built by the script
-`mount_tool` at the top of the repository.
+runs `term` on it. Prints how many bytes the text has, and for each run the processor seconds and the seconds by the
+clock, the million bytes a second and the greatest memory of the process (at least that of this script, which starts
+it); then the least processor seconds of all runs. The script `mount_tool` at the top of the repository builds the
+program, and the runs start what it built.
 
 usage: bench/postings.py [MEGABYTES [RUNS]]
 """
@@ -81,18 +82,26 @@ def write_archive(folder, size):
 def main():
     megabytes = int(sys.argv[1]) if len(sys.argv) > 1 else 100
     runs = int(sys.argv[2]) if len(sys.argv) > 2 else 5
-    program = os.path.join(os.path.dirname(os.path.dirname(os.path.abspath(__file__))), "mount_tool")
+    top = os.path.dirname(os.path.dirname(os.path.abspath(__file__)))
+    subprocess.run([os.path.join(top, "mount_tool")], capture_output=True, check=False)
+    program = os.path.join(top, "crates", "mount_tool", "out", "mount_tool")
     with tempfile.TemporaryDirectory() as folder:
         length, terms = write_archive(folder, megabytes * 1_000_000)
         print("%d bytes, %d terms" % (length, terms))
         words = [program, folder, "-", "term", "mount-bench", "body", "t%07d" % (terms // 2)]
+        least = None
         for _ in range(runs):
             begun = time.perf_counter()
+            before = resource.getrusage(resource.RUSAGE_CHILDREN)
             done = subprocess.run(words, capture_output=True, check=False)
+            after = resource.getrusage(resource.RUSAGE_CHILDREN)
             seconds = time.perf_counter() - begun
-            peak = resource.getrusage(resource.RUSAGE_CHILDREN).ru_maxrss
+            processor = after.ru_utime + after.ru_stime - before.ru_utime - before.ru_stime
+            least = processor if least is None else min(least, processor)
             line = done.stdout[:40].decode(errors="replace").strip()
-            print("%.3f s, %.0f MB/s, %d KiB: %s" % (seconds, length / seconds / 1e6, peak, line))
+            rate = length / seconds / 1e6
+            print("%.3f s of processor, %.3f s, %.0f MB/s, %d KiB: %s" % (processor, seconds, rate, after.ru_maxrss, line))
+        print("least: %.3f s of processor" % least)
 
 
 main()

@@ -2,26 +2,12 @@
 use Rattle.std.proofs.Common.{◌≡◌, ℕ, List, [], ◌++◌, Option, Some, None, ap, ◌∙◌, refl, Ok, Err}
 use Rattle.std.specs.Prelude.{Result, IfOk}
 use Rattle.directory_input.specs.Reads.{Read}
-use Rattle.directory_input.specs.Files.{FilesView, FilesLater, GoesOn}
+use Rattle.directory_input.specs.Files.{GoesOn}
 use Rattle.directory_input.specs.Windows.{Window, window_bytes}
-use Rattle.directory_input.proofs.Later.{file_fits_later}
 use Rattle.simpletext_postings.specs.Postings.{postings}
-use Rattle.simpletext_postings.specs.Terms.{FitsText, TermTable, TermEntry, ReadsEntries}
+use Rattle.simpletext_postings.specs.Terms.{TermTable, TermEntry, ReadsEntries}
 use Rattle.simpletext_postings.specs.declared.rows.Row.{Row}
-use Rattle.simpletext_stored.specs.Answers.{FitsStored, StoredPlaces}
 use Rattle.shard_search.specs.Sets.{AreRowsOf}
-
-pub text_fits_later : {x y : FilesView} {t : TermTable} → FilesLater x y → FitsText x t → FitsText y t
-text_fits_later later h = record {
-  file = file_fits_later later h.file;
-  table = rw (later.tells, later.bytes) h.table;
-}
-
-pub stored_fits_later : {x y : FilesView} {t : StoredPlaces} → FilesLater x y → FitsStored x t → FitsStored y t
-stored_fits_later later h = record {
-  file = file_fits_later later h.file;
-  text = rw (later.tells, later.bytes) h.text;
-}
 
 pub rows_later : (bytes bytes' : ℕ → List ℕ) (t : TermTable) (rows : List Row) → bytes' ≡ bytes → AreRowsOf bytes t rows → AreRowsOf bytes' t rows
 rows_later bytes bytes' t rows e h = ap (λ f. postings (window_bytes f t.input) t.docs) e ∙ h

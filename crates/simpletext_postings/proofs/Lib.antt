@@ -14,3 +14,4 @@ pub mod RowForms
 pub mod WrittenText
 pub mod WorkedWriting
 pub mod Stepped
+pub mod Fitting

@@ -97,6 +97,7 @@ impl Dictionary {
         ensures unknown { entry_of field.now term.now self.now.terms ≡ None → IsOkAnd result (λ v. v.items ≡ []) }
         ensures reads { ReadsEntries B.goes_by self.now.input (entry_of field.now term.now self.now.terms)
             bytes.old bytes.new }
+        ensures fits { FitsText (B.view bytes.new) self.now }
         ensures cause { HasBytesCause (B.view bytes.old) (B.view bytes.new) (text_refusal result) }
     {
         match self.find(field, term) {

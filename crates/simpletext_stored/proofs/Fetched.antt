@@ -3,10 +3,11 @@ use Rattle.std.proofs.Common.{◌≡◌, ℕ, zero, suc, ◌+◌, ◌-◌, ◌<�
 use Rattle.std.specs.Prelude.{IsTrue, Result, slice_index}
 use Rattle.std.proofs.lemmas.Grind.{get_or_default_zero}
 use Rattle.directory_input.specs.Reads.{slice_of}
-use Rattle.directory_input.specs.Files.{FilesView}
+use Rattle.directory_input.specs.Files.{FilesView, FilesLater}
+use Rattle.directory_input.proofs.Later.{file_fits_later}
 use Rattle.directory_input.specs.Windows.{Window, FitsFile, part_of, window_bytes}
 use Rattle.directory_input.proofs.Slices.{slice_of_window}
-use Rattle.simpletext_stored.specs.Answers.{StoredPlaces, HasDocument, lines_of_document}
+use Rattle.simpletext_stored.specs.Answers.{StoredPlaces, FitsStored, HasDocument, lines_of_document}
 use Rattle.simpletext_stored.specs.Stored.{stored, stored_places}
 use Rattle.simpletext_stored.specs.Steps.{AreRising, IsIndexed, document_of}
 use Rattle.simpletext_stored.specs.declared.field.StoredField.{StoredField}
@@ -35,6 +36,12 @@ part_fits files w v at len is le h =
     let inside = h.inside in
     let within : w.start + at + len ≤ files.lengths w.file = omega (arith, le, inside) in
     subst (FitsFile files) (sym is) (record { file = h.file; inside = within; whole = h.whole })
+
+pub stored_fits_later : {x y : FilesView} {t : StoredPlaces} → FilesLater x y → FitsStored x t → FitsStored y t
+stored_fits_later later h = record {
+  file = file_fits_later later h.file;
+  text = rw (later.tells, later.bytes) h.text;
+}
 
 module _ (bytes : ℕ → List ℕ) (index : StoredPlaces) (keeps : IsIndexed index.input index.docs index.places) (d : ℕ) (lt : d < index.docs)
     (told : stored_places (window_bytes bytes index.input) index.docs ≡ Ok index.places) (v : Window) (is : v ≡ lines_of_document index d) where

@@ -141,6 +141,7 @@ impl StoredIndex {
             (stored (window_bytes (B.view bytes.old).bytes self.now.input) self.now.docs) doc fields.items) }
         ensures never_bad { IsTrue (B.view bytes.old).tells → IfErr result IsNotBad }
         ensures no_doc { KnowsDocs result self.now.docs doc }
+        ensures fits { FitsStored (B.view bytes.new) self.now }
         ensures pieces { ReadsPieces B.goes_by (lines_of_document self.now doc) bytes.old bytes.new }
         ensures cause { HasBytesCause (B.view bytes.old) (B.view bytes.new) (stored_refusal result) }
     {

@@ -9,7 +9,8 @@ use Rattle.shard_search.specs.Hits.{has_in}
 use Rattle.shard_search.specs.Matches.{count_match, matches}
 use Rattle.shard_search.specs.Sets.{each_of}
 use Rattle.shard_search.proofs.Clauses.{keep_more, keep_done, drop_more, drop_done, count_more, count_done, none_needed, from_zero, length-zeros, map_twice, bool_set}
-use Rattle.shard_search.proofs.Going.{rows_later, ok_map, text_fits_later}
+use Rattle.shard_search.proofs.Going.{rows_later, ok_map}
+use Rattle.simpletext_postings.proofs.Fitting.{text_fits_later}
 use Rattle.directory_input.proofs.Later.{no_cause, cause_join, files_join, going_join}
 use Rattle.shard_search.proofs.QueryTrees.{match_all_is, term_is, bool_is}
 use Rattle.shard_search.proofs.SetLemmas.{all_true}

@@ -1,5 +1,6 @@
 use Rattle.std.proofs.Common.{◌≡◌, subst, ◌∙◌}
 use Rattle.std.specs.Prelude.{IfOk}
+use Rattle.simpletext_postings.proofs.Fitting.{text_fits_later}
 use Rattle.simpletext_postings.proofs.Finding.{unknown_told, known_told, known_entry}
 use Rattle.simpletext_postings.proofs.dictionary.Dictionary.postings.Goals as goal
 
@@ -22,3 +23,6 @@ returns-in-None-clause-documents g c = λ t rows h.
     let own = c.self.inside in
     c.new.ensures.items ∙ unknown_told (g.B.FileBytes.view c.args.bytes.now).bytes c.args.self.now own.docs own.input own.fields.items own.places.items c.args.field.now c.args.term.now c.self.view_is c.self.invariant (c.requires.table t)
     rows h c.in-None.ensures.found
+
+pub returns-in-Some-clause-fits : goal.returns-in-Some-clause-fits
+returns-in-Some-clause-fits g c = text_fits_later c.read_entries.ensures.cause.files c.requires

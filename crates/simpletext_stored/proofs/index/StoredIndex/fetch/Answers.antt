@@ -3,7 +3,7 @@ use Rattle.std.specs.Prelude.{slice_index}
 use Rattle.directory_input.specs.Windows.{Window, part_of}
 use Rattle.simpletext_stored.specs.Answers.{StoredPlaces, lines_of_document}
 use Rattle.simpletext_stored.specs.Steps.{IsIndexed}
-use Rattle.simpletext_stored.proofs.Fetched.{between, place_is, part_fits, fetched, never}
+use Rattle.simpletext_stored.proofs.Fetched.{stored_fits_later, between, place_is, part_fits, fetched, never}
 use Rattle.simpletext_stored.proofs.index.StoredIndex.fetch.Goals as goal
 
 pub overflow_sub-till : goal.overflow_sub-till
@@ -63,3 +63,12 @@ returns-in-Err-Bad-clause-never_bad g c = λ t.
     let fits = rw (sym c.self.view_is) at c.requires.text in
     let read = rw c.in-Err-Bad.field-0-is at (c.in-Err-Bad.ensures.refused t) in
     never (g.B.FileBytes.view c.args.bytes.now).bytes index inv c.args.doc c.if-doc-self.false (fits t) c.part-lines.result lines c.in-Err-Bad.at read
+
+pub returns-in-Ok-clause-fits : goal.returns-in-Ok-clause-fits
+returns-in-Ok-clause-fits g c = stored_fits_later c.read_document.ensures.cause.files c.requires
+
+pub returns-in-Err-Bad-clause-fits : goal.returns-in-Err-Bad-clause-fits
+returns-in-Err-Bad-clause-fits g c = stored_fits_later c.read_document.ensures.cause.files c.requires
+
+pub returns-in-Err-Bytes-clause-fits : goal.returns-in-Err-Bytes-clause-fits
+returns-in-Err-Bytes-clause-fits g c = stored_fits_later c.read_document.ensures.cause.files c.requires
