@@ -73,4 +73,3 @@ pub fn sample_blobs(alloc: Global) -> Result<Blobs, AllocError>
     add(alloc, &mut blobs, b"mount-z", Text::of(alloc, MANIFEST_Z)?)?;
     Ok(blobs)
 }
-

@@ -48,9 +48,9 @@ fn cut_table(
     alloc: Global,
     source: &mut MemSource<SampleArchive>,
 ) -> Option<PartTable<SampleArchive>> {
-    let Ok((number, manifest)) =
-        load::<SampleArchive, MemSource<SampleArchive>>(alloc, source, "mount-x")
-    else {
+    let Ok((number, manifest)) = load::<SampleArchive, MemSource<SampleArchive>>(
+        alloc, source, "mount-x",
+    ) else {
         return None;
     };
     resolve::<SampleArchive, MemSource<SampleArchive>>(alloc, source, number, &manifest).ok()
@@ -71,10 +71,7 @@ fn core_of_one<A: Archive + Drop>(
 }
 
 /// A core of two actors over four frames.
-fn core_of_four(
-    alloc: Global,
-    config: &Config,
-) -> Result<Core<SampleArchive, MemFrame>, AllocError>
+fn core_of_four(alloc: Global, config: &Config) -> Result<Core<SampleArchive, MemFrame>, AllocError>
     requires config { IsConfig config.now }
     requires four { config.now.regions ≡ 4 }
     ensures { IfOk result (IsCore config.now) }
@@ -119,8 +116,7 @@ fn read_next<'a, A: Archive, D: CacheDoor<A>>(
     wanted: &[u8],
 ) -> Result<Report, BytesError>
     requires { 0 < (⟦<Reader<'a, A, D, MemSource<A>> as FileBytes>⟧.view reader.old).count }
-    ensures {
-        ⟦<Reader<'a, A, D, MemSource<A>> as FileBytes>⟧.goes_by (one_read 0 at (length wanted.now)) reader.old reader.new }
+    ensures { ⟦<Reader<'a, A, D, MemSource<A>> as FileBytes>⟧.goes_by (one_read 0 at (length wanted.now)) reader.old reader.new }
 {
     let mut room = [0; 16];
     assert!(rt; wanted.len() <= 16);
@@ -323,7 +319,12 @@ fn big_source(rt: &impl Abort, alloc: Global) -> Result<MemSource<Untold>, Alloc
     let mut blobs = Blobs::new(alloc);
     let bytes = Text::from_vec(vec![in alloc; 7; 140_000]?);
     add(alloc, &mut blobs, b"__big", bytes)?;
-    add(alloc, &mut blobs, b"mount-big", Text::of(alloc, MANIFEST_BIG)?)?;
+    add(
+        alloc,
+        &mut blobs,
+        b"mount-big",
+        Text::of(alloc, MANIFEST_BIG)?,
+    )?;
     assert!(rt; manifests_in(&blobs) <= 65_536);
     Ok(MemSource::<Untold>::new(alloc, blobs, 1_000_000, Vec::new(alloc)))
 }
@@ -346,7 +347,14 @@ fn pieces_of_a_gap(rt: HostRuntime) -> Result<(), Fail> {
     let mut core = core_of_one::<Untold>(alloc, &WIDE)?;
     assert!(rt; core.hold_of(0).is_none());
     let mut door = core.door(0);
-    let all = read(&rt, &mut door, &mut source, &table, &WIDE, (131_000, &[7, 7]));
+    let all = read(
+        &rt,
+        &mut door,
+        &mut source,
+        &table,
+        &WIDE,
+        (131_000, &[7, 7]),
+    );
     assert!(rt; all == Ok(report(2, 131_072, 0)));
     let taken = [(0, 0, 65_536), (0, 65_536, 65_536)];
     let reads = source.reads();
