@@ -4,7 +4,6 @@ pub mod Entries
 pub mod Takes
 pub mod Loads
 pub mod Resolving
-pub mod Example
 pub mod Pieces
 pub mod Going
 pub mod Errors

@@ -1,5 +1,5 @@
 -- Reads behind reads.
-use Rattle.std.proofs.Common.{◌≡◌, ℕ, ◌+◌, ◌≤◌, List, [], ◌∷◌, ◌++◌, Bool, true, false, Option, Some, None, map, take, refl, ap, sym, subst, ◌∙◌, arith}
+use Rattle.std.proofs.Common.{◌≡◌, ℕ, ◌+◌, ◌≤◌, List, [], ◌∷◌, ◌++◌, Bool, true, false, Option, Some, None, length, map, take, refl, ap, sym, subst, ◌∙◌, arith}
 use Rattle.std.specs.Prelude.{IsTrue}
 use Rattle.std.specs.List.{flat_map}
 use Rattle.std.proofs.lemmas.Grind.{flat_map-append}
@@ -7,11 +7,13 @@ use Rattle.std.proofs.lemmas.List.{append-nil, append_assoc, map-append}
 use Rattle.std.proofs.Math.Nat.{le_refl, le_trans}
 use Rattle.cache_outside.specs.Causes.{Rose}
 use Rattle.cache_outside.specs.Listing.{Listing}
+use Rattle.cache_outside.specs.Sources.{SourceView}
+use Rattle.directory_input.specs.Files.{FilesLater}
 use Rattle.directory_input.specs.Reads.{Read}
-use Rattle.blob_parts.specs.Content.{spread, spread_one}
-use Rattle.blob_parts.specs.Tables.{TableParts}
+use Rattle.blob_parts.specs.Content.{content, spread, spread_one}
+use Rattle.blob_parts.specs.Tables.{TableParts, file_length}
 use Rattle.blob_parts.specs.Takes.{Took}
-use Rattle.blob_parts.specs.Going.{AreInTable, AreFronts, TakesReads, ReadsOn, read_places}
+use Rattle.blob_parts.specs.Going.{AreInTable, AreFronts, TakesReads, ReadsOn, read_places, files_view}
 
 -- nothing is taken yet
 pub took_none : (t : Option (List (ℕ × ℕ × ℕ))) (asked : List (ℕ × ℕ)) → Took t t (take 0 asked)
@@ -47,38 +49,54 @@ unmarked : (first then : Bool) → (IsTrue first → IsTrue then) → then ≡ f
 unmarked false then h e = refl
 unmarked true then h e = let raised = h refl in absurd (cc)
 
-takes_more : (asked : Read → List (ℕ × ℕ)) (rs ss : List Read) (t u v : Option (List (ℕ × ℕ × ℕ))) (a b c : ℕ) (first then : Bool)
-    → a ≤ b → b ≤ c → (IsTrue first → IsTrue then)
-    → TakesReads asked rs t u a b first → TakesReads asked ss u v b c then → TakesReads asked (rs ++ ss) t v a c then
-takes_more asked rs ss t u v a b c first then up on marks h k = record {
+takes_more : (asked : Read → List (ℕ × ℕ)) (rs ss : List Read) (first then : Bool) (x y z : SourceView)
+    → x.faults ≤ y.faults → y.faults ≤ z.faults → (IsTrue first → IsTrue then)
+    → TakesReads asked rs first x y → TakesReads asked ss then y z → TakesReads asked (rs ++ ss) then x z
+takes_more asked rs ss first then x y z up on marks h k = record {
   places = h.places ++ k.places;
-  took = took_both t u v h.places k.places h.took k.took;
+  took = took_both x.reads y.reads z.reads h.places k.places h.took k.took;
   fronts = rw (map-append asked rs ss) (fronts_more (map asked rs) (map asked ss) h.places k.places h.fronts k.fronts);
-  whole = λ unwanted calm.
-      ap (λ r. r ++ k.places) (h.whole (unmarked first then marks unwanted) (λ r. calm (rose_first a b c on r)))
-      ∙ ap (λ r. flat_map asked rs ++ r) (k.whole unwanted (λ r. calm (rose_then a b c up r)))
+  whole = λ enough calm.
+      ap (λ r. r ++ k.places) (h.whole (unmarked first then marks enough) (λ r. calm (rose_first x.faults y.faults z.faults on r)))
+      ∙ ap (λ r. flat_map asked rs ++ r) (k.whole enough (λ r. calm (rose_then x.faults y.faults z.faults up r)))
       ∙ sym (flat_map-append asked rs ss);
 }
 
-pub no_reads : (tells : Bool) (blobs : Listing) (table : TableParts) (faults : ℕ) (wanted : Bool) (taken : Option (List (ℕ × ℕ × ℕ))) → ReadsOn tells blobs table [] faults faults wanted wanted taken taken
-no_reads tells blobs table faults wanted taken = record {
+pub no_reads : (tells : Bool) (blobs : Listing) (table : TableParts) (mark : Bool) (x : SourceView) → ReadsOn tells blobs table [] mark mark x x
+no_reads tells blobs table mark x = record {
   allowed = tt;
-  later = le_refl faults;
+  identity = refl;
+  later = le_refl x.faults;
   marked = λ h. h;
-  taken = λ told. record { places = []; took = took_none taken []; fronts = refl; whole = λ a b. refl };
+  places = λ told. record { places = []; took = took_none x.reads []; fronts = refl; whole = λ a b. refl };
 }
 
-pub more_reads : (tells : Bool) (blobs : Listing) (table : TableParts) (rs ss : List Read) (a b c : ℕ) (p q r : Bool) (t u v : Option (List (ℕ × ℕ × ℕ)))
-    → ReadsOn tells blobs table rs a b p q t u → ReadsOn tells blobs table ss b c q r u v → ReadsOn tells blobs table (rs ++ ss) a c p r t v
-more_reads tells blobs table rs ss a b c p q r t u v h k = record {
+more_reads : (tells : Bool) (blobs : Listing) (table : TableParts) (rs ss : List Read) (p q r : Bool) (x y z : SourceView)
+    → ReadsOn tells blobs table rs p q x y → ReadsOn tells blobs table ss q r y z → ReadsOn tells blobs table (rs ++ ss) p r x z
+more_reads tells blobs table rs ss p q r x y z h k = record {
   allowed = allowed_more table rs ss h.allowed k.allowed;
+  identity = k.identity ∙ h.identity;
   later = le_trans h.later k.later;
   marked = λ m. k.marked (h.marked m);
-  taken = λ told. takes_more (read_places blobs table.number) rs ss t u v a b c q r h.later k.later k.marked (h.taken told) (k.taken told);
+  places = λ told. takes_more (read_places blobs table.number) rs ss q r x y z h.later k.later k.marked (h.places told) (k.places told);
 }
 
 -- the same, where the later reads are of a table that is the same one
-pub more_of_same : (tells : Bool) (blobs : Listing) (table other : TableParts) (rs ss : List Read) (a b c : ℕ) (p q r : Bool) (t u v : Option (List (ℕ × ℕ × ℕ)))
-    → other ≡ table → ReadsOn tells blobs table rs a b p q t u → ReadsOn tells blobs other ss b c q r u v → ReadsOn tells blobs table (rs ++ ss) a c p r t v
-more_of_same tells blobs table other rs ss a b c p q r t u v same h k =
-    more_reads tells blobs table rs ss a b c p q r t u v h (subst (λ own. ReadsOn tells blobs own ss b c q r u v) same k)
+pub more_of_same : (tells : Bool) (blobs : Listing) (table other : TableParts) (rs ss : List Read) (p q r : Bool) (x y z : SourceView)
+    → other ≡ table → ReadsOn tells blobs table rs p q x y → ReadsOn tells blobs other ss q r y z → ReadsOn tells blobs table (rs ++ ss) p r x z
+more_of_same tells blobs table other rs ss p q r x y z same h k =
+    more_reads tells blobs table rs ss p q r x y z h (subst (λ own. ReadsOn tells blobs own ss q r y z) same k)
+
+-- reads change no files, and lower no count or mark
+pub files_later : (tells : Bool) (blobs : Listing) (table other : TableParts) (rs : List Read) (p q : Bool) (x y : SourceView)
+    → other ≡ table → ReadsOn tells blobs table rs p q x y → FilesLater (files_view tells blobs table x p) (files_view tells blobs other y q)
+files_later tells blobs table other rs p q x y same h = record {
+  count = ap (λ t. length t.files) same;
+  lengths = ap file_length same;
+  tells = refl;
+  bytes = ap (λ t. content blobs t.number) same;
+  mount = refl;
+  faults = h.later;
+  gone = λ seen. seen;
+  memory = h.marked;
+}

@@ -1,5 +1,7 @@
 -- What a call takes from a source, as places of single bytes.
-use Rattle.std.specs.Prelude.{ℕ, ◌≡◌, List, ◌++◌, take, Option, Some, None, Result, Ok, Err}
+use Rattle.std.specs.Prelude.{ℕ, ◌≡◌, ◌≤◌, List, ◌++◌, take, Option, Some, None, Result, Ok, Err}
+use Rattle.cache_outside.specs.Causes.{Rose}
+use Rattle.cache_outside.specs.Sources.{SourceView}
 use Rattle.blob_parts.specs.Content.{spread}
 
 -- where a source tells what was taken: the earlier list stands, and behind it reads of just these places, in order
@@ -11,3 +13,10 @@ Took (Some before) after asked = (reads : List (ℕ × ℕ × ℕ)) × (after �
 abbrev pub Takes : {T E : Type 0} → Option (List (ℕ × ℕ × ℕ)) → Option (List (ℕ × ℕ × ℕ)) → List (ℕ × ℕ) → Result T E → Type 0
 Takes before after asked (Ok x) = Took before after asked
 Takes before after asked (Err e) = (n : ℕ) × Took before after (take n asked)
+
+-- what a call leaves of a source: the same one, and a count of faults that never falls and that rose where the call answers
+-- a fault
+pub record SourceLater (before now : SourceView) (fault : Type 0) : Type 0 where
+  pub identity : now.identity ≡ before.identity
+  pub later : before.faults ≤ now.faults
+  pub failed : fault → Rose before.faults now.faults

@@ -15,7 +15,3 @@ pub use read::{FetchError, read_into};
 pub use resolving::{ResolveError, resolve};
 pub use table::PartTable;
 
-#[cfg(test)]
-mod many_parts;
-#[cfg(test)]
-mod tests;

@@ -1,11 +1,10 @@
 // Loading a manifest by its name.
 ghost use Rattle.std.specs.Prelude.{◌≡◌, ◌<◌, ◌≤◌, ◌+◌, length, take, IsTrue, OnOk, IfOk, IfErr, IsErr, IsErrOf, Some, None};
-ghost use Rattle.cache_outside.specs.Causes.{Rose};
 ghost use Rattle.cache_outside.specs.Listing.{manifest_number, place_of, blob_bytes, blob_size};
 ghost use Rattle.mount_manifest.specs.Manifest.{manifest};
 ghost use Rattle.blob_parts.specs.Content.{places};
 ghost use Rattle.blob_parts.specs.Loads.{Loads, Refusal, LoadTakes, RefusedTakes, Judges, asked};
-ghost use Rattle.blob_parts.specs.Takes.{Takes};
+ghost use Rattle.blob_parts.specs.Takes.{SourceLater, Takes};
 
 use crate::FetchError;
 use crate::read::read_blob;
@@ -45,11 +44,9 @@ fn locate<A: Archive, S: BlobSource<A>>(source: &mut S, name: &str) -> Result<Lo
     ensures size { IsTrue A.tells → IfOk result (λ l. l.size ≡ blob_size A.blobs l.blob) }
     ensures small { IfOk result (λ l. l.number < 65536) }
     ensures refusal { IsTrue A.tells → IfErr result (λ e. Refusal A.blobs name.now e) }
-    ensures later { S.faults source.old ≤ S.faults source.new }
-    ensures fault { IsErrOf result LoadError.Fault → Rose (S.faults source.old) (S.faults source.new) }
-    ensures same { S.which source.new ≡ S.which source.old }
-    ensures taken { S.taken source.new ≡ S.taken source.old }
-    ensures refused { IfErr result (λ e. RefusedTakes (S.taken source.old) (S.taken source.new) (asked A.blobs name.now) e) }
+    ensures source { SourceLater (S.view source.old) (S.view source.new) (IsErrOf result LoadError.Fault) }
+    ensures reads { (S.view source.new).reads ≡ (S.view source.old).reads }
+    ensures refused { IfErr result (λ e. RefusedTakes (S.view source.old).reads (S.view source.new).reads (asked A.blobs name.now) e) }
 {
     let number = match source.manifest(name) {
         Ok(Some(number)) => number,
@@ -79,10 +76,8 @@ fn fill<A: Archive, S: BlobSource<A>>(
     requires whole { IsTrue A.tells → (blob < length A.blobs) × (blob_size A.blobs blob ≡ length out.old) }
     requires short { length out.old ≤ 16777216 }
     ensures bytes { IsTrue A.tells → OnOk result (out.new ≡ blob_bytes A.blobs blob) }
-    ensures later { S.faults source.old ≤ S.faults source.new }
-    ensures fault { IsErrOf result FetchError.Fault → Rose (S.faults source.old) (S.faults source.new) }
-    ensures same { S.which source.new ≡ S.which source.old }
-    ensures taken { Takes (S.taken source.old) (S.taken source.new) (places blob 0 (length out.old)) result }
+    ensures source { SourceLater (S.view source.old) (S.view source.new) (IsErrOf result FetchError.Fault) }
+    ensures reads { Takes (S.view source.old).reads (S.view source.new).reads (places blob 0 (length out.old)) result }
 {
     let mut done = 0;
     while done < out.len() {
@@ -104,10 +99,8 @@ fn whole_blob<A: Archive, S: BlobSource<A>>(
     requires whole { IsTrue A.tells → (blob < length A.blobs) × (blob_size A.blobs blob ≡ size) }
     requires short { size ≤ 16777216 }
     ensures bytes { IsTrue A.tells → IfOk result (λ v. v.items ≡ blob_bytes A.blobs blob) }
-    ensures later { S.faults source.old ≤ S.faults source.new }
-    ensures fault { IsErrOf result FetchError.Fault → Rose (S.faults source.old) (S.faults source.new) }
-    ensures same { S.which source.new ≡ S.which source.old }
-    ensures taken { Takes (S.taken source.old) (S.taken source.new) (places blob 0 size) result }
+    ensures source { SourceLater (S.view source.old) (S.view source.new) (IsErrOf result FetchError.Fault) }
+    ensures reads { Takes (S.view source.old).reads (S.view source.new).reads (places blob 0 size) result }
 {
     let mut bytes = vec![in alloc; 0; size as usize]?;
     fill::<A, S>(source, blob, &mut bytes)?;
@@ -137,12 +130,10 @@ pub fn load<A: Archive, S: BlobSource<A>>(
     source: &mut S,
     name: &str,
 ) -> Result<(u32, Manifest), LoadError>
-    ensures told { IsTrue A.tells → Loads A.blobs name.now result }
+    ensures loads { IsTrue A.tells → Loads A.blobs name.now result }
     ensures small { IfOk result (λ loaded. loaded.0 < 65536) }
-    ensures later { S.faults source.old ≤ S.faults source.new }
-    ensures fault { IsErrOf result LoadError.Fault → Rose (S.faults source.old) (S.faults source.new) }
-    ensures same { S.which source.new ≡ S.which source.old }
-    ensures taken { IsTrue A.tells → LoadTakes (S.taken source.old) (S.taken source.new) (asked A.blobs name.now) result }
+    ensures source { SourceLater (S.view source.old) (S.view source.new) (IsErrOf result LoadError.Fault) }
+    ensures reads { IsTrue A.tells → LoadTakes (S.view source.old).reads (S.view source.new).reads (asked A.blobs name.now) result }
 {
     let found = locate::<A, S>(source, name)?;
     if found.size > LONGEST {

@@ -1,9 +1,8 @@
 // A piece of a file: some of its bytes, and where they stand.
 ghost use Rattle.std.specs.Prelude.{◌≡◌, ◌<◌, ◌≤◌, ◌+◌, length, IsTrue, IfOk, IsErrOf};
-ghost use Rattle.cache_outside.specs.Causes.{Rose};
 ghost use Rattle.blob_parts.specs.Content.{content, content_places, slice_of};
 ghost use Rattle.blob_parts.specs.Tables.{file_length};
-ghost use Rattle.blob_parts.specs.Takes.{Takes};
+ghost use Rattle.blob_parts.specs.Takes.{SourceLater, Takes};
 ghost use Rattle.blob_parts.specs.Pieces.{IsPiece, IsPieceAt};
 
 use crate::{FetchError, PartTable, read_into};
@@ -77,10 +76,8 @@ pub fn fetch<A: Archive, S: BlobSource<A>>(
     requires inside { at + len ≤ file_length table.now file }
     ensures piece { IfOk result (IsPieceAt table.now.number file at len) }
     ensures bytes { IsTrue A.tells → IfOk result (λ p. p.bytes ≡ slice_of (content A.blobs table.now.number file) at len) }
-    ensures later { S.faults source.old ≤ S.faults source.new }
-    ensures fault { IsErrOf result FetchError.Fault → Rose (S.faults source.old) (S.faults source.new) }
-    ensures same { S.which source.new ≡ S.which source.old }
-    ensures taken { IsTrue A.tells → Takes (S.taken source.old) (S.taken source.new) (slice_of (content_places A.blobs table.now.number file) at len) result }
+    ensures source { SourceLater (S.view source.old) (S.view source.new) (IsErrOf result FetchError.Fault) }
+    ensures reads { IsTrue A.tells → Takes (S.view source.old).reads (S.view source.new).reads (slice_of (content_places A.blobs table.now.number file) at len) result }
 {
     let mut bytes = vec![in alloc; 0; len as usize]?;
     read_into(source, table, file, at, &mut bytes)?;

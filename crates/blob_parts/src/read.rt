@@ -1,12 +1,11 @@
 // Reading the bytes of a file of a table.
 ghost use Rattle.std.specs.Prelude.{◌≡◌, ◌<◌, ◌≤◌, ◌+◌, length, take, drop, IsTrue, OnOk, IfOk, IsErr, IsErrOf};
-ghost use Rattle.cache_outside.specs.Causes.{Rose};
 ghost use Rattle.cache_outside.specs.declared.fault.OutError.TheVariants.{Failed};
 ghost use Rattle.cache_outside.specs.Listing.{IsWithin, blob_bytes};
 ghost use Rattle.blob_parts.specs.declared.read.FetchError.TheVariants.{NoMemory};
 ghost use Rattle.blob_parts.specs.Content.{content, content_places, places, slice_of};
 ghost use Rattle.blob_parts.specs.Tables.{file_length};
-ghost use Rattle.blob_parts.specs.Takes.{Took, Takes};
+ghost use Rattle.blob_parts.specs.Takes.{SourceLater, Took, Takes};
 
 use crate::PartTable;
 use cache_outside::{Archive, BlobSource, OutError};
@@ -49,11 +48,9 @@ pub(crate) fn read_blob<A: Archive, S: BlobSource<A>>(
     requires some { 0 < length out.old }
     ensures count { IfOk result (λ n. (0 < n) × (n ≤ length out.old)) }
     ensures bytes { IsTrue A.tells → IfOk result (λ n. take n out.new ≡ take n (drop at (blob_bytes A.blobs blob))) }
-    ensures later { S.faults source.old ≤ S.faults source.new }
-    ensures fault { IsErrOf result FetchError.Fault → Rose (S.faults source.old) (S.faults source.new) }
-    ensures same { S.which source.new ≡ S.which source.old }
-    ensures taken { IfOk result (λ n. Took (S.taken source.old) (S.taken source.new) (places blob at n)) }
-    ensures untaken { IsErr result → S.taken source.new ≡ S.taken source.old }
+    ensures source { SourceLater (S.view source.old) (S.view source.new) (IsErrOf result FetchError.Fault) }
+    ensures reads { IfOk result (λ n. Took (S.view source.old).reads (S.view source.new).reads (places blob at n)) }
+    ensures unread { IsErr result → (S.view source.new).reads ≡ (S.view source.old).reads }
 {
     match source.read(blob, at, out) {
         Ok(n) => Ok(n),
@@ -74,11 +71,9 @@ fn read_some<A: Archive, S: BlobSource<A>>(
     requires inside { at + length out.old ≤ file_length table.now file }
     ensures count { IfOk result (λ n. (0 < n) × (n ≤ length out.old)) }
     ensures bytes { IsTrue A.tells → IfOk result (λ n. take n out.new ≡ slice_of (content A.blobs table.now.number file) at n) }
-    ensures later { S.faults source.old ≤ S.faults source.new }
-    ensures fault { IsErrOf result FetchError.Fault → Rose (S.faults source.old) (S.faults source.new) }
-    ensures same { S.which source.new ≡ S.which source.old }
-    ensures taken { IsTrue A.tells → IfOk result (λ n. Took (S.taken source.old) (S.taken source.new) (slice_of (content_places A.blobs table.now.number file) at n)) }
-    ensures untaken { IsErr result → S.taken source.new ≡ S.taken source.old }
+    ensures source { SourceLater (S.view source.old) (S.view source.new) (IsErrOf result FetchError.Fault) }
+    ensures reads { IsTrue A.tells → IfOk result (λ n. Took (S.view source.old).reads (S.view source.new).reads (slice_of (content_places A.blobs table.now.number file) at n)) }
+    ensures unread { IsErr result → (S.view source.new).reads ≡ (S.view source.old).reads }
 {
     let place = table.place(file, at);
     let most = (out.len() as u64).min(place.room) as usize;
@@ -100,10 +95,8 @@ pub fn read_into<A: Archive, S: BlobSource<A>>(
     requires file { file < length table.now.files }
     requires inside { at + length out.old ≤ file_length table.now file }
     ensures bytes { IsTrue A.tells → OnOk result (out.new ≡ slice_of (content A.blobs table.now.number file) at (length out.old)) }
-    ensures later { S.faults source.old ≤ S.faults source.new }
-    ensures fault { IsErrOf result FetchError.Fault → Rose (S.faults source.old) (S.faults source.new) }
-    ensures same { S.which source.new ≡ S.which source.old }
-    ensures taken { IsTrue A.tells → Takes (S.taken source.old) (S.taken source.new) (slice_of (content_places A.blobs table.now.number file) at (length out.old)) result }
+    ensures source { SourceLater (S.view source.old) (S.view source.new) (IsErrOf result FetchError.Fault) }
+    ensures reads { IsTrue A.tells → Takes (S.view source.old).reads (S.view source.new).reads (slice_of (content_places A.blobs table.now.number file) at (length out.old)) result }
 {
     let _length = table.length(file);
     let mut done = 0;

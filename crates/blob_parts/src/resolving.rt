@@ -1,6 +1,6 @@
 // Finding the blobs of a manifest's files, and comparing their sizes.
 ghost use Rattle.std.specs.Prelude.{◌≡◌, ◌<◌, ◌≤◌, ℕ, IsTrue, IfOk, OnOk, IsErrOf, Ok, Some, length, map, slice_get};
-ghost use Rattle.cache_outside.specs.Causes.{Rose};
+ghost use Rattle.blob_parts.specs.Takes.{SourceLater};
 ghost use Rattle.cache_outside.specs.Listing.{place_of, blob_size};
 ghost use Rattle.mount_manifest.specs.Parts.{parts_of, part_name, part_length};
 ghost use Rattle.mount_manifest.specs.Sound.{IsFile};
@@ -68,11 +68,9 @@ fn find_part<A: Archive, S: BlobSource<A>>(
 ) -> Result<u32, ResolveError>
     requires kept { IsFile file.now }
     requires part { k < parts_of file.now }
-    ensures told { IsTrue A.tells → FindsPart A.blobs file.now k result }
-    ensures later { S.faults source.old ≤ S.faults source.new }
-    ensures fault { IsErrOf result Fault → Rose (S.faults source.old) (S.faults source.new) }
-    ensures taken { S.taken source.new ≡ S.taken source.old }
-    ensures same { S.which source.new ≡ S.which source.old }
+    ensures blob { IsTrue A.tells → FindsPart A.blobs file.now k result }
+    ensures source { SourceLater (S.view source.old) (S.view source.new) (IsErrOf result Fault) }
+    ensures reads { (S.view source.new).reads ≡ (S.view source.old).reads }
 {
     let name = file.part_name(alloc, k)?;
     match source.find(name.as_str()) {
@@ -91,11 +89,9 @@ fn find_parts<A: Archive, S: BlobSource<A>>(
     requires { IsFile file.now }
     ensures count { IfOk result (λ v. length v.items ≡ parts_of file.now) }
     ensures named { IsTrue A.tells → IfOk result (λ v. AreNamed A.blobs file.now v.items) }
-    ensures told { IsTrue A.tells → Resolves result (missing_in A.blobs file.now) }
-    ensures later { S.faults source.old ≤ S.faults source.new }
-    ensures fault { IsErrOf result Fault → Rose (S.faults source.old) (S.faults source.new) }
-    ensures taken { S.taken source.new ≡ S.taken source.old }
-    ensures same { S.which source.new ≡ S.which source.old }
+    ensures missing { IsTrue A.tells → Resolves result (missing_in A.blobs file.now) }
+    ensures source { SourceLater (S.view source.old) (S.view source.new) (IsErrOf result Fault) }
+    ensures reads { (S.view source.new).reads ≡ (S.view source.old).reads }
 {
     let mut blobs = Vec::new(alloc);
     for k in 0..file.parts() {
@@ -118,12 +114,10 @@ fn size_part<A: Archive, S: BlobSource<A>>(
     requires kept { IsFile file.now }
     requires part { k < parts_of file.now }
     requires named { IsTrue A.tells → place_of (part_name file.now k) A.blobs ≡ Some blob }
-    ensures told { IsTrue A.tells → Resolves result (wrong_part A.blobs file.now k) }
+    ensures wrong { IsTrue A.tells → Resolves result (wrong_part A.blobs file.now k) }
     ensures size { IsTrue A.tells → OnOk result (blob_size A.blobs blob ≡ part_length file.now.length file.now.part_size k) }
-    ensures later { S.faults source.old ≤ S.faults source.new }
-    ensures fault { IsErrOf result Fault → Rose (S.faults source.old) (S.faults source.new) }
-    ensures taken { S.taken source.new ≡ S.taken source.old }
-    ensures same { S.which source.new ≡ S.which source.old }
+    ensures source { SourceLater (S.view source.old) (S.view source.new) (IsErrOf result Fault) }
+    ensures reads { (S.view source.new).reads ≡ (S.view source.old).reads }
 {
     let wanted = file.part_len(k);
     let told = match source.size(blob) {
@@ -147,12 +141,10 @@ fn size_parts<A: Archive, S: BlobSource<A>>(
     requires kept { IsFile file.now }
     requires count { length blobs.now ≡ parts_of file.now }
     requires named { IsTrue A.tells → AreNamed A.blobs file.now blobs.now }
-    ensures told { IsTrue A.tells → Resolves result (wrong_in A.blobs file.now) }
+    ensures wrong { IsTrue A.tells → Resolves result (wrong_in A.blobs file.now) }
     ensures sized { IsTrue A.tells → OnOk result (AreSized A.blobs file.now blobs.now) }
-    ensures later { S.faults source.old ≤ S.faults source.new }
-    ensures fault { IsErrOf result Fault → Rose (S.faults source.old) (S.faults source.new) }
-    ensures taken { S.taken source.new ≡ S.taken source.old }
-    ensures same { S.which source.new ≡ S.which source.old }
+    ensures source { SourceLater (S.view source.old) (S.view source.new) (IsErrOf result Fault) }
+    ensures reads { (S.view source.new).reads ≡ (S.view source.old).reads }
 {
     for k in 0..blobs.len() {
         match size_part(alloc, source, file, k as u64, blobs[k]) {
@@ -171,11 +163,9 @@ fn find_files<A: Archive, S: BlobSource<A>>(
 ) -> Result<Vec<FileEntry>, ResolveError>
     ensures count { IfOk result (λ v. length v.items ≡ length manifest.now.files) }
     ensures entries { IfOk result (λ v. AreEntries A.tells A.blobs manifest.now.files (map parts_in v.items)) }
-    ensures told { IsTrue A.tells → Resolves result (first_of (missing_in A.blobs) manifest.now.files) }
-    ensures later { S.faults source.old ≤ S.faults source.new }
-    ensures fault { IsErrOf result Fault → Rose (S.faults source.old) (S.faults source.new) }
-    ensures taken { S.taken source.new ≡ S.taken source.old }
-    ensures same { S.which source.new ≡ S.which source.old }
+    ensures missing { IsTrue A.tells → Resolves result (first_of (missing_in A.blobs) manifest.now.files) }
+    ensures source { SourceLater (S.view source.old) (S.view source.new) (IsErrOf result Fault) }
+    ensures reads { (S.view source.new).reads ≡ (S.view source.old).reads }
 {
     let mut entries = Vec::new(alloc);
     for i in 0..manifest.files_len() {
@@ -202,12 +192,10 @@ fn size_files<A: Archive, S: BlobSource<A>>(
 ) -> Result<(), ResolveError>
     requires count { length entries.now ≡ length manifest.now.files }
     requires entries { AreEntries A.tells A.blobs manifest.now.files (map parts_in entries.now) }
-    ensures told { IsTrue A.tells → Resolves result (first_of (wrong_in A.blobs) manifest.now.files) }
+    ensures wrong { IsTrue A.tells → Resolves result (first_of (wrong_in A.blobs) manifest.now.files) }
     ensures sized { IsTrue A.tells → OnOk result (AllSized A.blobs (length manifest.now.files) manifest.now.files (map parts_in entries.now)) }
-    ensures later { S.faults source.old ≤ S.faults source.new }
-    ensures fault { IsErrOf result Fault → Rose (S.faults source.old) (S.faults source.new) }
-    ensures taken { S.taken source.new ≡ S.taken source.old }
-    ensures same { S.which source.new ≡ S.which source.old }
+    ensures source { SourceLater (S.view source.old) (S.view source.new) (IsErrOf result Fault) }
+    ensures reads { (S.view source.new).reads ≡ (S.view source.old).reads }
 {
     for i in 0..manifest.files_len() {
         match size_parts(alloc, source, manifest.file(i), &entries[i as usize].blobs) {
@@ -230,14 +218,12 @@ pub fn resolve<A: Archive, S: BlobSource<A>>(
     manifest: &Manifest,
 ) -> Result<PartTable<A>, ResolveError>
     requires small { number < 65536 }
-    requires told { IsTrue A.tells → manifest_at A.blobs number ≡ Ok manifest.now }
+    requires whole { IsTrue A.tells → manifest_at A.blobs number ≡ Ok manifest.now }
     ensures refusal { IsTrue A.tells → Resolves result (part_refusal A.blobs manifest.now.files) }
     ensures number { IfOk result (λ t. t.number ≡ number) }
     ensures files { IfOk result (λ t. lengths_of t.files ≡ map (λ f. f.length) manifest.now.files) }
-    ensures later { S.faults source.old ≤ S.faults source.new }
-    ensures fault { IsErrOf result Fault → Rose (S.faults source.old) (S.faults source.new) }
-    ensures taken { S.taken source.new ≡ S.taken source.old }
-    ensures same { S.which source.new ≡ S.which source.old }
+    ensures source { SourceLater (S.view source.old) (S.view source.new) (IsErrOf result Fault) }
+    ensures reads { (S.view source.new).reads ≡ (S.view source.old).reads }
 {
     let entries = match find_files::<A, S>(alloc, source, manifest) {
         Ok(entries) => entries,

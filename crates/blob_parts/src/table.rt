@@ -99,7 +99,7 @@ impl<A: Archive> PartTable<A> {
         requires { file < length self.now.files }
         ensures found { slice_get self.now.files file ≡ Some (parts_in result.now) }
         ensures cut { IsCut (parts_in result.now) }
-        ensures told { IsTrue A.tells → IsFound A.blobs self.now.number file (parts_in result.now) }
+        ensures blobs { IsTrue A.tells → IsFound A.blobs self.now.number file (parts_in result.now) }
     {
         &self.entries[file as usize]
     }
@@ -109,7 +109,7 @@ impl<A: Archive> PartTable<A> {
         requires { file < length self.now.files }
         ensures value { result ≡ file_length self.now file }
         ensures most { result ≤ 1099511623680 }
-        ensures told { IsTrue A.tells → length (content A.blobs self.now.number file) ≡ result }
+        ensures whole { IsTrue A.tells → length (content A.blobs self.now.number file) ≡ result }
     {
         self.entry(file).length
     }
@@ -119,7 +119,7 @@ impl<A: Archive> PartTable<A> {
         requires file { file < length self.now.files }
         requires inside { at < file_length self.now file }
         ensures some { 0 < result.room }
-        ensures told { IsTrue A.tells → IsPlaced A.blobs self.now.number file at result.blob result.at result.room }
+        ensures placed { IsTrue A.tells → IsPlaced A.blobs self.now.number file at result.blob result.at result.room }
     {
         place_in(self.entry(file), at)
     }

@@ -1,16 +1,23 @@
 -- What an entry claims was absent.
-use Rattle.std.proofs.Common.{arith, ◌≡◌, ◌<◌, ◌≤◌, ◌-◌, ◌/◌, ℕ, sym, inl, inr, refl, Option, Some}
-use Rattle.std.specs.Prelude.{◌==◌, slice_get}
+use Rattle.std.proofs.Common.{arith, ◌≡◌, ◌<◌, ◌≤◌, ◌-◌, ◌/◌, ℕ, zero, suc, Bool, false, List, length, sym, subst, ap, inl, inr, refl, Option, Some, None}
+use Rattle.std.specs.Prelude.{◌==◌, slice_get, replicate}
+use Rattle.std.proofs.lemmas.List.{get_or-set_same}
 use Rattle.std.proofs.lemmas.Bool.{cases_Bool}
 use Rattle.region_ranges.specs.declared.ranges.ByteRange.{ByteRange}
 use Rattle.region_ranges.specs.Ranges.{aligned}
-use Rattle.sparse_tracker.specs.ByteStates.{absent}
+use Rattle.sparse_tracker.specs.ByteStates.{ByteState, absent}
 use Rattle.sparse_tracker.specs.Places.{ClaimPlaces}
-use Rattle.region_cell.specs.Cells.{Region, len_of, claim_run, range_round}
+use Rattle.freq_lists.specs.Lists.{head}
+use Rattle.cache_policy.specs.Policy.{find}
+use Rattle.region_ranges.specs.Keys.{tag_of}
+use Rattle.region_cell.specs.Cells.{Region, len_of, assign, claim_run, range_round}
 use Rattle.region_cell.proofs.Orders.{part_gives}
 use Rattle.cache_door.specs.declared.answers.Want.{Want}
 use Rattle.cache_door.specs.declared.answers.Entered.TheVariants.{Held, NoRoom, Gone}
-use Rattle.cache_door.specs.Machine.{cell_at, is_gone, enter_at}
+use Rattle.cache_door.specs.Machine.{State, Cell, no_cell, cell_at, is_gone, is_held, enter, enter_at, place, make_room}
+use Rattle.cache_door.specs.Good.{Good}
+use Rattle.cache_door.specs.Doors.{IsWant}
+use Rattle.cache_door.proofs.Fronts.{front_there}
 use Rattle.cache_door.specs.Laws.{ClaimsAbsent}
 use Rattle.cache_door.proofs.Places.{is_same}
 
@@ -49,3 +56,39 @@ entry_absent places s a mount r q now i want g config w found e low high = elim 
         | inr n ↦ absurd (room_held (rw n at there))
       ]
 ]
+
+-- a key that is not mapped: the region was held by nobody, and all its bytes are absent
+all_absent : (n i : ℕ) (l : ByteState) → slice_get (replicate n absent) i ≡ Some l → l ≡ absent
+all_absent zero i l e = absurd (cc)
+all_absent (suc n) zero l e = cc
+all_absent (suc n) (suc i) l e = all_absent n i l e
+
+length_all : (n : ℕ) → length (replicate {A = ByteState} n absent) ≡ n
+length_all zero = refl
+length_all (suc n) = ap (λ k. suc k) (length_all n)
+
+module _ (places : ClaimPlaces) {tells : Bool} {files : ℕ → ℕ → List ℕ} (s : State) (good : Good tells files s) (a q now i : ℕ) (want : Want) (g : ByteRange) (w : IsWant s.config want) (low : g.start ≤ i) (high : i < g.end) where
+  abbrev new : Region
+  new = assign (tag_of want.key) want.len (cell_at s q).region
+
+  placed_absent : (r : ℕ) → head (make_room s).free ≡ Some r → (place a (Some r) (make_room s) want now s).0 ≡ Held q (Some g) → (is_held s q ≡ false) × (slice_get new.tracker.byte_states i ≡ Some absent)
+  placed_absent r front e =
+      let c : Region = assign (tag_of want.key) want.len (cell_at s r).region in
+      let open_is = front_there s good r front in
+      let cell : Cell = record { region = c; bytes = (cell_at s r).bytes } in
+      let here = get_or-set_same s.cells r cell no_cell open_is.0 in
+      let P : Cell → Type 0 = λ x. Held r (claim_run s.config.range want.sub x.region) ≡ Held q (Some g) in
+      let k = held_is r q (claim_run s.config.range want.sub c) (Some g) (subst P here e) in
+      let Q : ℕ → Type 0 = λ n. is_held s n ≡ false in
+      let l = length_all want.len in
+      (subst Q (sym k.0) open_is.1, run_absent places s.config.range i want c g good.config.range.0 w.sub.0 (omega (arith, l, w.sub.1)) w.sub.2 k.1 low high)
+
+  found_front : (o : Option ℕ) → head (make_room s).free ≡ o → (place a o (make_room s) want now s).0 ≡ Held q (Some g) → (is_held s q ≡ false) × (slice_get new.tracker.byte_states i ≡ Some absent)
+  found_front None front e = absurd (room_held e)
+  found_front (Some r) front e = placed_absent r front e
+
+  pub new_absent : (mount : ℕ) → find (tag_of want.key) s.policy ≡ None → (enter a mount want now s).0 ≡ Held q (Some g) → (is_held s q ≡ false) × (slice_get new.tracker.byte_states i ≡ Some absent)
+  new_absent mount found e = elim (cases_Bool (is_gone s mount)) [
+    | inl t ↦ absurd (gone_held (rw t at e))
+    | inr f ↦ found_front (head (make_room s).free) refl (rw (f, found) at e)
+  ]

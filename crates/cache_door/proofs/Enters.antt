@@ -41,7 +41,7 @@ module _ (v : CoreView) (r : ℕ) (y : CellView) (within : r < length v.cells) (
   }
 
   pub changed_view : view_at changed.cells r ≡ y
-  changed_view = get_or-set_same v.cells r y (new_cell no_frame 0 []) within
+  changed_view = get_or-set_same v.cells r y (new_cell no_frame 0) within
 
   pub changed_state : state_of changed ≡ with_cell r (cell_of (all_tell v.cells) y) (state_of v)
   changed_state = state_set v r y within frame

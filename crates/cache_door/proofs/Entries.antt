@@ -23,6 +23,7 @@ use Rattle.cache_door.specs.Cores.{CoreView, view_at, all_tell, cell_of, state_o
 use Rattle.cache_door.proofs.Places.{same_is, other_is, head_passes}
 use Rattle.cache_door.proofs.Policies.{touch_changes, settled_changes, unmap_changes}
 use Rattle.cache_door.proofs.Mapping.{Maps, maps_keeps, free_unheld, no_tickets, no_gaps, head_in}
+use Rattle.cache_door.proofs.Fronts.{unheld_first, mapped_there, free_there, front_there}
 use Rattle.cache_door.proofs.Calls.{hold_changes, mapped_inside, mapped_busy}
 use Rattle.cache_door.proofs.Frames.{cell_is, state_set, length_map, set_same}
 use Rattle.cache_door.proofs.Walks.{choose_free, choose_leaving, choose_candidate, candidate_times}
@@ -67,12 +68,6 @@ unmap_tags : (p : PolicyView) (r j : ℕ) → tag_at (unmap r p) j ≡ (if j == 
 unfolding at
 unmap_tags p r j = gone_at p.tags r j
 
-unheld_first : (holds : List (Option Hold)) (rs : List ℕ) (r : ℕ) → head (unheld_by holds rs) ≡ Some r → is_held_by holds r ≡ false
-unheld_first holds rs r e = let h = (head_passes (λ m. not (is_held_by holds m)) r rs e).0 in elim (cases_Bool (is_held_by holds r)) [
-  | inl t ↦ absurd (false≢true (rw t at h))
-  | inr f ↦ f
-]
-
 evicted_kept : {tells : Bool} {files : ℕ → ℕ → List ℕ} (v : CoreView) (o : Option ℕ) → ((r : ℕ) → o ≡ Some r → is_held_by v.holds r ≡ false) → policy.IsGood (evicted o v.policy) → IsKept tells files v
     → IsKept tells files (record v { policy = evicted o v.policy })
 evicted_kept v None off good kept = kept
@@ -95,7 +90,7 @@ room_kept {tells} {files} v p e settled_good good kept =
 
 module _ {tells : Bool} {files : ℕ → ℕ → List ℕ} (v : CoreView) (r : ℕ) (x y : CellView) (kept : IsKept tells files v) (within : r < length v.cells) (read : x ≡ get_or v.cells r x) where
   pub x_at : view_at v.cells r ≡ x
-  x_at = read_is v.cells r x (new_cell no_frame 0 []) read within
+  x_at = read_is v.cells r x (new_cell no_frame 0) read within
 
   pub cell_x : cell_at (state_of v) r ≡ cell_of (all_tell v.cells) x
   cell_x = cell_is v r within ∙ ap (λ (c : CellView). cell_of (all_tell v.cells) c) x_at
@@ -161,7 +156,7 @@ module _ {tells : Bool} {files : ℕ → ℕ → List ℕ} (v : CoreView) (r : �
   assign_tickets = sym (ap (λ (q : Region). q.tracker.tickets) region_x) ∙ no_tickets s r kept.good within_s off
 
   pub assign_size : x.metadata.frame.size ≡ v.config.region
-  assign_size = let P : CellView → Type 0 = λ q. q.metadata.frame.size ≡ v.config.region in subst P (read_is v.cells r x (new_cell no_frame 0 []) read within) (kept.sized r within).1
+  assign_size = let P : CellView → Type 0 = λ q. q.metadata.frame.size ≡ v.config.region in subst P (read_is v.cells r x (new_cell no_frame 0) read within) (kept.sized r within).1
 
   pub assign_kept : (y : CellView) (p : PolicyView) (tag now len : ℕ) → tag ≢ free_tag → p ≡ map_front r tag now v.policy → policy.IsGood p → ((j : ℕ) → tag_at p j ≡ (if j == r then Some tag else tag_at v.policy j))
       → y ≡ with_region (cells.assign tag len x.metadata.region) x → cells.IsGood tells files y → IsKept tells files (record v { policy = p; cells = set v.cells r y })
@@ -207,7 +202,7 @@ module _ {tells : Bool} {files : ℕ → ℕ → List ℕ} (v u : CoreView) (is 
   region_t = sym (ap (λ (q : Cell). q.region) (cell_x v r x x kept within read))
 
   pub range_t : x.metadata.range ≡ v.config.range
-  range_t = let P : CellView → Type 0 = λ q. q.metadata.range ≡ v.config.range in subst P (read_is v.cells r x (new_cell no_frame 0 []) read within) (kept.sized r within).0
+  range_t = let P : CellView → Type 0 = λ q. q.metadata.range ≡ v.config.range in subst P (read_is v.cells r x (new_cell no_frame 0) read within) (kept.sized r within).0
 
   record Facts (y : CellView) (h : Hold) (g : Option ByteRange) (n : ℕ) (R : Region) : Type 0 where
     cell : y.metadata.region ≡ cells.claim n want.sub R
@@ -258,7 +253,7 @@ module _ {tells : Bool} {files : ℕ → ℕ → List ℕ} (v u : CoreView) (is 
       → IsEntry u.config want (Held r g)
   hold_entry l g f =
       let Q : CoreView → Type 0 = λ q. len_of (view_at q.cells r).metadata.region ≡ want.len in
-      let n : len_of x.metadata.region ≡ want.len = sym (ap (λ (c : CellView). len_of c.metadata.region) (read_is v.cells r x (new_cell no_frame 0 []) read within)) ∙ subst Q (sym is) l in
+      let n : len_of x.metadata.region ≡ want.len = sym (ap (λ (c : CellView). len_of c.metadata.region) (read_is v.cells r x (new_cell no_frame 0) read within)) ∙ subst Q (sym is) l in
       let P : CoreView → Type 0 = λ q. IsEntry q.config want (Held r g) in
       let m = length_map (cell_of (all_tell v.cells)) v.cells in
       let R : ℕ → Type 0 = λ k. IfSome g (λ q. (q.start < q.end) × (want.sub.start / k * k ≤ q.start) × (q.end ≤ want.sub.start / k * k + k) × (q.end ≤ want.len)) in
@@ -271,61 +266,12 @@ first_fact (Some q) m n k h = h.0
 
 -- ---- where the regions lie
 
-in_times : (r : ℕ) (xs : List ℕ) → is_in r xs ≡ true → 0 < times_in r xs
-in_times r [] e = absurd (false≢true e)
-in_times r (x ∷ xs) e = elim (cases_Bool (x == r)) [
-  | inl t ↦ rw t (omega arith)
-  | inr f ↦ let h = in_times r xs (rw f at e) in omega (arith, h)
-]
+pub mapped_cells : {tells : Bool} {files : ℕ → ℕ → List ℕ} (v : CoreView) → IsKept tells files v → (r tag : ℕ) → tag_at v.policy r ≡ Some tag → r < length v.cells
+mapped_cells v kept r tag e = let l = length_map (cell_of (all_tell v.cells)) v.cells in omega (arith, l, mapped_there (state_of v) kept.good r tag e)
 
-placed_inside : (p : PolicyView) (r : ℕ) → policy.IsGood p → 0 < policy.places p r → r < length p.tags
-placed_inside p r kept h = elim (cases_lt r (length p.tags)) [
-  | inl l ↦ l
-  | inr g ↦ absurd (let z = kept.none_else r g in omega (arith, z, h))
-]
+pub front_inside : {tells : Bool} {files : ℕ → ℕ → List ℕ} (v : CoreView) → IsKept tells files v → (r : ℕ) → head v.policy.free ≡ Some r → r < length v.cells
+front_inside v kept r e = let l = length_map (cell_of (all_tell v.cells)) v.cells in omega (arith, l, (free_there (state_of v) kept.good r e).0)
 
-module _ {tells : Bool} {files : ℕ → ℕ → List ℕ} (v : CoreView) (kept : IsKept tells files v) where
-  tags_cells : (r : ℕ) → r < length v.policy.tags → r < length v.cells
-  tags_cells r h = let l = length_map (cell_of (all_tell v.cells)) v.cells in omega (arith, l, h, kept.good.counts.tags, kept.good.counts.cells)
-
-  free_inside : (r : ℕ) → is_in r v.policy.free ≡ true → r < length v.cells
-  free_inside r e = let t = in_times r v.policy.free e in tags_cells r (placed_inside v.policy r kept.good.policy (omega (arith, t)))
-
-  leaving_inside : (r : ℕ) → is_in r v.policy.leaving ≡ true → r < length v.cells
-  leaving_inside r e = let t = in_times r v.policy.leaving e in tags_cells r (placed_inside v.policy r kept.good.policy (omega (arith, t)))
-
-  candidate_inside : (r : ℕ) → is_in r (candidates v.policy) ≡ true → r < length v.cells
-  candidate_inside r e =
-      let t = in_times r (candidates v.policy) e in
-      let c = candidate_times r v.policy.lists in
-      tags_cells r (placed_inside v.policy r kept.good.policy (omega (arith, t, c)))
-
-  pub front_inside : (r : ℕ) → head v.policy.free ≡ Some r → r < length v.cells
-  front_inside r e = free_inside r (head_in r v.policy.free e)
-
-  pub mapped_cells : (r tag : ℕ) → tag_at v.policy r ≡ Some tag → r < length v.cells
-  mapped_cells r tag e = tags_cells r (mapped_inside v.policy r tag e)
-
-  chosen : (x y : Option ℕ) (r q : ℕ) → x ≡ Some r → x ≡ Some q → q ≡ r
-  chosen x y r q e f = cc
-
-  by_candidate : (r : ℕ) → head v.policy.free ≡ None → head (unheld_by v.holds v.policy.leaving) ≡ None → head (room_by v.holds v.policy).free ≡ Some r → r < length v.cells
-  by_candidate r n m e = candidate_inside r (head_passes (λ k. not (is_held_by v.holds k)) r (candidates v.policy) (sym (choose_candidate v.holds v.policy n m) ∙ e)).1
-
-  by_leaving : (o : Option ℕ) (r : ℕ) → head (unheld_by v.holds v.policy.leaving) ≡ o → head v.policy.free ≡ None → head (room_by v.holds v.policy).free ≡ Some r → r < length v.cells
-  by_leaving None r h n e = by_candidate r n h e
-  by_leaving (Some q) r h n e =
-      let i = chosen (head (room_by v.holds v.policy).free) None r q e (choose_leaving v.holds v.policy q n h) in
-      let P : ℕ → Type 0 = λ k. k < length v.cells in
-      subst P i (leaving_inside q (head_passes (λ k. not (is_held_by v.holds k)) q v.policy.leaving h).1)
-
-  by_free : (o : Option ℕ) (r : ℕ) → head v.policy.free ≡ o → head (room_by v.holds v.policy).free ≡ Some r → r < length v.cells
-  by_free None r h e = by_leaving (head (unheld_by v.holds v.policy.leaving)) r refl h e
-  by_free (Some q) r h e =
-      let i = chosen (head (room_by v.holds v.policy).free) None r q e (choose_free v.holds v.policy q h) in
-      let P : ℕ → Type 0 = λ k. k < length v.cells in
-      subst P i (front_inside q h)
-
-  pub choose_inside : (o : Option ℕ) → o ≡ head (room_by v.holds v.policy).free → IfSome o (λ r. r < length v.cells)
-  choose_inside None e = tt
-  choose_inside (Some r) e = by_free (head v.policy.free) r refl (sym e)
+pub choose_inside : {tells : Bool} {files : ℕ → ℕ → List ℕ} (v : CoreView) → IsKept tells files v → (o : Option ℕ) → o ≡ head (room_by v.holds v.policy).free → IfSome o (λ r. r < length v.cells)
+choose_inside v kept None e = tt
+choose_inside v kept (Some r) e = let l = length_map (cell_of (all_tell v.cells)) v.cells in omega (arith, l, (front_there (state_of v) kept.good r (sym e)).0)

@@ -36,29 +36,29 @@ length_map f [] = refl
 length_map f (x ∷ xs) = omega (arith, length_map f xs)
 
 pub cell_is : (v : CoreView) (r : ℕ) → r < length v.cells → cell_at (state_of v) r ≡ cell_of (all_tell v.cells) (view_at v.cells r)
-cell_is v r h = map_at (cell_of (all_tell v.cells)) v.cells r (new_cell no_frame 0 []) no_cell h
+cell_is v r h = map_at (cell_of (all_tell v.cells)) v.cells r (new_cell no_frame 0) no_cell h
 
 module _ (v : CoreView) (r : ℕ) (c : CellView) (inside : r < length v.cells) (frame : FrameStays (view_at v.cells r).metadata.frame c.metadata.frame) where
   abbrev changed : CoreView
   changed = record v { cells = set v.cells r c }
 
   pub tell_same : all_tell (set v.cells r c) ≡ all_tell v.cells
-  tell_same = all_set (λ (x : CellView). x.metadata.frame.tells) v.cells r c (new_cell no_frame 0 []) inside frame.tells
+  tell_same = all_set (λ (x : CellView). x.metadata.frame.tells) v.cells r c (new_cell no_frame 0) inside frame.tells
 
   pub steady_same : all_steady (set v.cells r c) ≡ all_steady v.cells
-  steady_same = all_set (λ (x : CellView). x.metadata.frame.steady) v.cells r c (new_cell no_frame 0 []) inside frame.steady
+  steady_same = all_set (λ (x : CellView). x.metadata.frame.steady) v.cells r c (new_cell no_frame 0) inside frame.steady
 
   pub faults_later : all_faults v.cells ≤ all_faults (set v.cells r c)
-  faults_later = omega (arith, total-set (λ (x : CellView). x.metadata.frame.faults) v.cells r c (new_cell no_frame 0 []) inside, frame.later)
+  faults_later = omega (arith, total-set (λ (x : CellView). x.metadata.frame.faults) v.cells r c (new_cell no_frame 0) inside, frame.later)
 
   pub one_steady : IsTrue (all_steady v.cells) → IsTrue (view_at v.cells r).metadata.frame.steady
   one_steady h = elim (cases_Bool (view_at v.cells r).metadata.frame.steady) [
     | inl t ↦ t
-    | inr f ↦ absurd (false≢true (sym (list_all_at (λ (x : CellView). x.metadata.frame.steady) v.cells r (new_cell no_frame 0 []) inside f) ∙ h))
+    | inr f ↦ absurd (false≢true (sym (list_all_at (λ (x : CellView). x.metadata.frame.steady) v.cells r (new_cell no_frame 0) inside f) ∙ h))
   ]
 
   pub faults_stand : IsTrue (all_steady v.cells) → all_faults (set v.cells r c) ≡ all_faults v.cells
-  faults_stand h = omega (arith, total-set (λ (x : CellView). x.metadata.frame.faults) v.cells r c (new_cell no_frame 0 []) inside, frame.stands (one_steady h))
+  faults_stand h = omega (arith, total-set (λ (x : CellView). x.metadata.frame.faults) v.cells r c (new_cell no_frame 0) inside, frame.stands (one_steady h))
 
   pub state_set : state_of changed ≡ with_cell r (cell_of (all_tell v.cells) c) (state_of v)
   state_set = rw (tell_same, map-set) refl

@@ -77,7 +77,7 @@ module _ {tells : Bool} {files : ℕ → ℕ → List ℕ} (v u : CoreView) (is 
 
   module _ (x : CellView) (at : x ≡ get_or v.cells h.region x) where
     pub view_is : view_at v.cells h.region ≡ x
-    view_is = read_is v.cells h.region x (new_cell no_frame 0 []) at inside
+    view_is = read_is v.cells h.region x (new_cell no_frame 0) at inside
 
     pub cell_here : cell_at s h.region ≡ cell_of (all_tell v.cells) x
     cell_here = cell_is v h.region inside ∙ ap (λ (c : CellView). cell_of (all_tell v.cells) c) view_is

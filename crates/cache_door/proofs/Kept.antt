@@ -82,7 +82,7 @@ module _ {tells : Bool} {files : ℕ → ℕ → List ℕ} (v : CoreView) (r : �
   pub one_tells : IsTrue (all_tell v.cells) → IsTrue c.metadata.frame.tells
   one_tells h = elim (cases_Bool (view_at v.cells r).metadata.frame.tells) [
     | inl t ↦ frame.tells ∙ t
-    | inr f ↦ absurd (false≢true (sym (list_all_at (λ (x : CellView). x.metadata.frame.tells) v.cells r (new_cell no_frame 0 []) inside f) ∙ h))
+    | inr f ↦ absurd (false≢true (sym (list_all_at (λ (x : CellView). x.metadata.frame.tells) v.cells r (new_cell no_frame 0) inside f) ∙ h))
   ]
 
   pub set_sized : (k : ℕ) → k < length (set v.cells r c) → ((view_at (set v.cells r c) k).metadata.range ≡ v.config.range) × ((view_at (set v.cells r c) k).metadata.frame.size ≡ v.config.region)
@@ -90,11 +90,11 @@ module _ {tells : Bool} {files : ℕ → ℕ → List ℕ} (v : CoreView) (r : �
     | inl e ↦
         let P : ℕ → Type 0 = λ j. ((view_at (set v.cells r c) j).metadata.range ≡ v.config.range) × ((view_at (set v.cells r c) j).metadata.frame.size ≡ v.config.region) in
         let s = kept.sized r inside in
-        let w = get_or-set_same v.cells r c (new_cell no_frame 0 []) inside in
+        let w = get_or-set_same v.cells r c (new_cell no_frame 0) inside in
         subst P e (ap (λ (x : CellView). x.metadata.range) w ∙ range ∙ s.0, ap (λ (x : CellView). x.metadata.frame.size) w ∙ frame.size ∙ s.1)
     | inr n ↦
         let s = kept.sized k (let l = length-set v.cells r c in omega (arith, l, h)) in
-        let w = get_or-set_other v.cells r k c (new_cell no_frame 0 []) (λ e. n (sym e)) in
+        let w = get_or-set_other v.cells r k c (new_cell no_frame 0) (λ e. n (sym e)) in
         (ap (λ (x : CellView). x.metadata.range) w ∙ s.0, ap (λ (x : CellView). x.metadata.frame.size) w ∙ s.1)
   ]
 

@@ -7,6 +7,7 @@ pub mod Mapping
 pub mod Found
 pub mod Calls
 pub mod Walks
+pub mod Fronts
 pub mod Frames
 pub mod Claimed
 pub mod Kept
@@ -19,3 +20,5 @@ pub mod Made
 pub mod OneOwner
 pub mod ClaimsAbsent
 pub mod PresentKept
+pub mod Alone
+pub mod GapKept

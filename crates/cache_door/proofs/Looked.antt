@@ -1,6 +1,6 @@
 -- Calls that read a cell's frame: the state stays, and the frame's answer is the cell's.
 use Rattle.std.proofs.Common.{arith, ◌≡◌, ◌<◌, ◌≤◌, ◌+◌, ◌-◌, ◌/◌, min, ℕ, Bool, List, [], sym, subst, ◌∙◌, ap, inl, inr, refl, length, set, get_or, Option, Some}
-use Rattle.std.specs.Prelude.{◌==◌, ◌↔◌, IsTrue, IfSome}
+use Rattle.std.specs.Prelude.{◌==◌, ◌↔◌, ◌⊎◌, IsTrue, IfSome}
 use Rattle.std.specs.List.{list_all, list_any}
 use Rattle.std.proofs.lemmas.Bool.{cases_Bool, false≢true}
 use Rattle.std.proofs.lemmas.List.Folds.{list_all_at}
@@ -10,7 +10,8 @@ use Rattle.sparse_tracker.specs.ByteStates.{Tracker, ticket_of, byte_states_in, 
 use Rattle.sparse_tracker.specs.Weights.{total}
 use Rattle.cache_outside.specs.Causes.{Rose}
 use Rattle.blob_parts.specs.Content.{slice_of}
-use Rattle.region_cell.specs.Cells.{CellView, FrameStays, Region, with_frame, new_cell, region_bytes}
+use Rattle.region_cell.specs.Cells.{CellView, FrameStays, Region, with_frame, new_cell, region_bytes, CopyAnswer, TicketBytes, TicketContent, NeverOpen}
+use Rattle.region_cell.proofs.Statuses.{ready_is}
 use Rattle.region_cell.specs.declared.taken.Taken.{Taken}
 use Rattle.region_cell.specs.declared.taken.Taken.TheVariants as taken
 use Rattle.cache_door.specs.declared.hold.Hold.{Hold}
@@ -22,7 +23,7 @@ use Rattle.cache_door.specs.declared.answers.Glance.{Glance}
 use Rattle.cache_door.specs.declared.answers.Glance.TheVariants as glance
 use Rattle.cache_door.specs.Machine.{State, Cell, cell_at, hold_at, with_cell, taken_of, look_at}
 use Rattle.cache_door.specs.Good.{Good}
-use Rattle.cache_door.specs.Doors.{HoldView, hold_view, IsWant}
+use Rattle.cache_door.specs.Doors.{HoldView, hold_view, IsWant, CopyOrFault}
 use Rattle.cache_door.proofs.Places.{is_same}
 use Rattle.cache_door.specs.Counters.{counters_same}
 use Rattle.cache_door.specs.Cores.{CoreView, view_at, all_tell, all_steady, all_faults, cell_of, state_of, no_frame, IsKept, Later}
@@ -37,7 +38,7 @@ use Rattle.cache_door.proofs.Held.{read_is, held, inside, told_is, cell_here, fi
 module _ {tells : Bool} {files : ℕ → ℕ → List ℕ} (v u : CoreView) (is : v ≡ u) (kept : IsKept tells files v) (r : ℕ) (within : r < length v.cells)
     (x y : CellView) (at : x ≡ get_or v.cells r x) (same : y ≡ with_frame y.metadata.frame x) (stays : FrameStays x.metadata.frame y.metadata.frame) where
   x_is : view_at v.cells r ≡ x
-  x_is = read_is v.cells r x (new_cell no_frame 0 []) at within
+  x_is = read_is v.cells r x (new_cell no_frame 0) at within
 
   abbrev frame : FrameStays (view_at v.cells r).metadata.frame y.metadata.frame
   frame = let P : CellView → Type 0 = λ c. FrameStays c.metadata.frame y.metadata.frame in subst P (sym x_is) stays
@@ -75,8 +76,8 @@ module _ {tells : Bool} {files : ℕ → ℕ → List ℕ} (v u : CoreView) (is 
   seen_fault rose =
       let F : CellView → ℕ = λ c. c.metadata.frame.faults in
       let P : CoreView → Type 0 = λ c. Rose (all_faults c.cells) (all_faults (set v.cells r y)) in
-      let t = total-set F v.cells r y (new_cell no_frame 0 []) within in
-      let a = total-at F v.cells r (new_cell no_frame 0 []) within in
+      let t = total-set F v.cells r y (new_cell no_frame 0) within in
+      let a = total-at F v.cells r (new_cell no_frame 0) within in
       let e = ap F x_is in
       let h : min (x.metadata.frame.faults + 1) 18446744073709551615 ≤ y.metadata.frame.faults = rose in
       let later = stays.later in
@@ -92,8 +93,8 @@ module _ {tells : Bool} {files : ℕ → ℕ → List ℕ} (v u : CoreView) (is 
 -- where all frames tell, this one does
 x_tells : (v : CoreView) (x : CellView) (r : ℕ) → r < length v.cells → x ≡ get_or v.cells r x → IsTrue (all_tell v.cells) → IsTrue x.metadata.frame.tells
 x_tells v x r within at all = elim (cases_Bool (view_at v.cells r).metadata.frame.tells) [
-  | inl t ↦ (let Q : CellView → Type 0 = λ c. IsTrue c.metadata.frame.tells in subst Q (read_is v.cells r x (new_cell no_frame 0 []) at within) t)
-  | inr f ↦ absurd (false≢true (sym (list_all_at (λ (c : CellView). c.metadata.frame.tells) v.cells r (new_cell no_frame 0 []) within f) ∙ all))
+  | inl t ↦ (let Q : CellView → Type 0 = λ c. IsTrue c.metadata.frame.tells in subst Q (read_is v.cells r x (new_cell no_frame 0) at within) t)
+  | inr f ↦ absurd (false≢true (sym (list_all_at (λ (c : CellView). c.metadata.frame.tells) v.cells r (new_cell no_frame 0) within f) ∙ all))
 ]
 
 -- ---- what a copy answers
@@ -150,40 +151,44 @@ module _ {tells : Bool} {files : ℕ → ℕ → List ℕ} (v u : CoreView) (is 
       let l = subst T (told_is v u is kept a o h read some actor_u) e in
       rw k.1 (rw (k.2, k.3) l)
 
-  pub copy_answer : (result : Taken) → IfSome (ticket_of h.ticket t) (λ k. (result ≡ taken.Waiting) ↔ (status k t ≡ status_of.Waiting)) → IfSome (ticket_of h.ticket t) (λ k. (result ≡ taken.Failed) ↔ (status k t ≡ status_of.Failed))
-      → ((n : ℕ) (k : Ticket) → ticket_of n t ≡ Some k → ¬ (status k t ≡ status_of.Open)) → ¬ (result ≡ taken.FrameFault)
-      → result ≡ machine.take_bytes (hold_at (state_of u) a) (state_of u)
-  copy_answer result w f settled n =
+  pub copy_answer : (result : Taken) → IfSome (ticket_of h.ticket t) (CopyAnswer x result) → NeverOpen t → CopyOrFault taken.Copied taken.FrameFault (machine.take_bytes (hold_at (state_of u) a) (state_of u)) result
+  copy_answer result answer settled =
       let k = ticket_is in
-      let P : CoreView → Type 0 = λ c. result ≡ machine.take_bytes (Some h) (state_of c) in
-      rw now_held (subst P is (taken_is t k.0 result (rw k.1 at w) (rw k.1 at f) (settled h.ticket k.0 k.1) n
-      ∙ ap (λ (c : Region). taken_of (byte_states_in k.0.start k.0.end c.tracker.byte_states)) (sym here)
-      ∙ rw (k.2, k.3) refl))
+      let P : CoreView → Type 0 = λ c. taken_of (byte_states_in k.0.start k.0.end t.byte_states) ≡ machine.take_bytes (Some h) (state_of c) in
+      let e : taken_of (byte_states_in k.0.start k.0.end t.byte_states) ≡ machine.take_bytes (hold_at (state_of u) a) (state_of u) =
+      rw now_held (subst P is (
+      ap (λ (c : Region). taken_of (byte_states_in k.0.start k.0.end c.tracker.byte_states)) (sym here)
+      ∙ rw (k.2, k.3) refl)) in
+      let r : CopyAnswer x result k.0 = rw k.1 at answer in
+      record {
+        same = λ n. taken_is t k.0 result r.waiting r.failed (settled h.ticket k.0 k.1) n ∙ e;
+        present = λ f. let all : list_all is_present (byte_states_in k.0.start k.0.end t.byte_states) ≡ true = ready_is k.0 t (r.ready.0 (inr f)) in sym e ∙ rw all refl;
+      }
 
   -- the bytes copied are the cell's, and the content's
-  pub copy_bytes : (out : List ℕ) → IsTrue (all_tell u.cells) → (IsTrue x.metadata.frame.tells → IfSome (ticket_of h.ticket t) (λ k. out ≡ slice_of x.bytes k.start (k.end - k.start)))
+  pub copy_bytes : (out : List ℕ) → IsTrue (all_tell u.cells) → TicketBytes x h.ticket out
       → out ≡ machine.wanted (hold_at (state_of u) a) (state_of u)
   copy_bytes out told copied =
       let k = ticket_is in
       let all : IsTrue (all_tell v.cells) = (let P : CoreView → Type 0 = λ c. IsTrue (all_tell c.cells) in subst P (sym is) told) in
       let b : (cell_at (state_of v) h.region).bytes ≡ x.bytes = ap (λ (c : Cell). c.bytes) (cell_here v u is kept a o h read some actor_u x at) ∙ rw all refl in
-      let c = copied (x_tells v x h.region (inside v u is kept a o h read some actor_u) at all) in
+      let c = (rw k.1 at copied) (x_tells v x h.region (inside v u is kept a o h read some actor_u) at all) in
       let P : CoreView → Type 0 = λ c. out ≡ machine.wanted (Some h) (state_of c) in
-      rw now_held (subst P is (rw b (rw (k.1, k.2, k.3) at c)))
+      rw now_held (subst P is (rw b (rw (k.2, k.3) at c)))
 
   pub copy_content : (out : List ℕ) → IsTrue tells → IsTrue (all_tell u.cells)
-      → (IsTrue x.metadata.frame.tells → IfSome (ticket_of h.ticket t) (λ k. out ≡ slice_of (region_bytes files x.metadata.frame.size x.metadata.region.tag) k.start (k.end - k.start)))
+      → TicketContent tells files x h.ticket out
       → out ≡ slice_of (region_bytes files u.config.region (hold_view (hold_at (state_of u) a)).tag) (hold_view (hold_at (state_of u) a)).sub.start ((hold_view (hold_at (state_of u) a)).sub.end - (hold_view (hold_at (state_of u) a)).sub.start)
   copy_content out archive told copied =
       let k = ticket_is in
       let all : IsTrue (all_tell v.cells) = (let P : CoreView → Type 0 = λ c. IsTrue (all_tell c.cells) in subst P (sym is) told) in
       let within = inside v u is kept a o h read some actor_u in
-      let c = copied (x_tells v x h.region within at all) in
-      let e : x.metadata.frame.size ≡ v.config.region = (let P : CellView → Type 0 = λ q. q.metadata.frame.size ≡ v.config.region in subst P (read_is v.cells h.region x (new_cell no_frame 0 []) at within) (kept.sized h.region within).1) in
+      let c = (rw k.1 at copied) archive (x_tells v x h.region within at all) in
+      let e : x.metadata.frame.size ≡ v.config.region = (let P : CellView → Type 0 = λ q. q.metadata.frame.size ≡ v.config.region in subst P (read_is v.cells h.region x (new_cell no_frame 0) at within) (kept.sized h.region within).1) in
       let g : x.metadata.region.tag ≡ h.tag = sym (ap (λ (q : Region). q.tag) here) ∙ (fits v u is kept a o h read some actor_u).tag in
       let T : HoldView → Type 0 = λ d. out ≡ slice_of (region_bytes files u.config.region d.tag) d.sub.start (d.sub.end - d.sub.start) in
       let P : CoreView → Type 0 = λ q. out ≡ slice_of (region_bytes files q.config.region h.tag) h.sub.start (h.sub.end - h.sub.start) in
-      subst T (sym (told_is v u is kept a o h read some actor_u)) (subst P is (rw (k.1, k.2, k.3, e, g) at c))
+      subst T (sym (told_is v u is kept a o h read some actor_u)) (subst P is (rw (k.2, k.3, e, g) at c))
 
 -- ---- what a glance answers
 
@@ -196,17 +201,20 @@ regions_inside v u is kept r h =
 
 module _ {tells : Bool} {files : ℕ → ℕ → List ℕ} (v u : CoreView) (is : v ≡ u) (kept : IsKept tells files v) (r : ℕ) (within : r < length v.cells) (x : CellView) (at : x ≡ get_or v.cells r x) (want : Want) where
   cell_x : cell_at (state_of v) r ≡ cell_of (all_tell v.cells) x
-  cell_x = cell_is v r within ∙ ap (λ (c : CellView). cell_of (all_tell v.cells) c) (read_is v.cells r x (new_cell no_frame 0 []) at within)
+  cell_x = cell_is v r within ∙ ap (λ (c : CellView). cell_of (all_tell v.cells) c) (read_is v.cells r x (new_cell no_frame 0) at within)
 
   pub glance_one : IsWant u.config want → want.sub.start / x.metadata.range ≡ (want.sub.end - 1) / x.metadata.range
   glance_one w =
       let P : CoreView → Type 0 = λ q. IsWant q.config want in
       let Q : CellView → Type 0 = λ q. q.metadata.range ≡ v.config.range in
-      let e = subst Q (read_is v.cells r x (new_cell no_frame 0 []) at within) (kept.sized r within).0 in
+      let e = subst Q (read_is v.cells r x (new_cell no_frame 0) at within) (kept.sized r within).0 in
       rw e (subst P (sym is) w).sub.2
 
-  pub glance_answer : (result : Glance) → result ≡ look_at want x.metadata.region → result ≡ machine.look r want (state_of u)
-  glance_answer result e = let P : CoreView → Type 0 = λ q. result ≡ machine.look r want (state_of q) in subst P is (e ∙ ap (λ (c : Cell). look_at want c.region) (sym cell_x))
+  pub glance_answer : (result : Glance) → CopyOrFault glance.Copied glance.FrameFault (look_at want x.metadata.region) result → CopyOrFault glance.Copied glance.FrameFault (machine.look r want (state_of u)) result
+  glance_answer result e =
+      let P : CoreView → Type 0 = λ q. CopyOrFault glance.Copied glance.FrameFault (machine.look r want (state_of q)) result in
+      let Q : Cell → Type 0 = λ c. CopyOrFault glance.Copied glance.FrameFault (look_at want c.region) result in
+      subst P is (subst Q (sym cell_x) e)
 
   pub glance_bytes : (out : List ℕ) → IsTrue (all_tell u.cells) → (IsTrue x.metadata.frame.tells → out ≡ slice_of x.bytes want.sub.start (want.sub.end - want.sub.start)) → out ≡ machine.bytes_in r want.sub (state_of u)
   glance_bytes out told copied =
@@ -230,7 +238,7 @@ module _ {tells : Bool} {files : ℕ → ℕ → List ℕ} (v u : CoreView) (is 
   glance_content out result e g told copied =
       let all : IsTrue (all_tell v.cells) = (let P : CoreView → Type 0 = λ c. IsTrue (all_tell c.cells) in subst P (sym is) told) in
       let Q : CellView → Type 0 = λ q. q.metadata.frame.size ≡ v.config.region in
-      let size = subst Q (read_is v.cells r x (new_cell no_frame 0 []) at within) (kept.sized r within).1 in
+      let size = subst Q (read_is v.cells r x (new_cell no_frame 0) at within) (kept.sized r within).1 in
       let tag = same_tag (sym e ∙ g) in
       let P : CoreView → Type 0 = λ q. out ≡ slice_of (region_bytes files q.config.region (tag_of want.key)) want.sub.start (want.sub.end - want.sub.start) in
       subst P is (rw (size, tag) at (copied (x_tells v x r within at all)))

@@ -11,6 +11,7 @@ use Rattle.sparse_tracker.specs.declared.tickets.Ticket.{Ticket}
 use Rattle.sparse_tracker.specs.Weights.{total, by_ticket, by_gap}
 use Rattle.cache_policy.specs.Policy.{PolicyView, new_policy, tag_at}
 use Rattle.cache_policy.specs.Kept as policy
+use Rattle.cache_outside.specs.Frames.{FrameView}
 use Rattle.region_cell.specs.Cells as cells
 use Rattle.region_cell.specs.Cells.{CellView, new_cell}
 use Rattle.cache_door.specs.declared.hold.Hold.{Hold}
@@ -62,9 +63,24 @@ tell_at r [] h t = absurd (omega (arith, h))
 tell_at zero (v ∷ vs) h t = left v.metadata.frame.tells (all_tell vs) t
 tell_at (suc r) (v ∷ vs) h t = tell_at r vs (omega (arith, h)) (right v.metadata.frame.tells (all_tell vs) t)
 
-module _ {X : Type 0} (faults size : X → ℕ) (tells steady : X → Bool) (bytes : X → List ℕ) where
+module _ {X : Type 0} (view : X → FrameView) where
+  abbrev faults : X → ℕ
+  faults f = (view f).faults
+
+  abbrev size : X → ℕ
+  size f = (view f).size
+
+  abbrev tells : X → Bool
+  tells f = (view f).tells
+
+  abbrev steady : X → Bool
+  steady f = (view f).steady
+
+  abbrev bytes : X → List ℕ
+  bytes f = (view f).bytes
+
   abbrev pub cell_over : ℕ → X → CellView
-  cell_over range f = new_cell (record { faults = faults f; size = size f; tells = tells f; steady = steady f }) range (bytes f)
+  cell_over range f = new_cell (view f) range
 
   pub over_push : (range : ℕ) (fs : List X) (f : X) → map (cell_over range) (fs ++ f ∷ []) ≡ map (cell_over range) fs ++ cell_over range f ∷ []
   over_push range [] f = refl
@@ -144,7 +160,7 @@ module _ {X : Type 0} (faults size : X → ℕ) (tells steady : X → Bool) (byt
             let k = at r h in
             let s = over_sized c r fs sizes k in
             let P : Cell → Type 0 = λ x. GoodCell ts (all_tell first.cells) files c x in
-            subst P (sym (cell_is first r k)) (good_cell (all_tell first.cells) c (view_at first.cells r) (all r (new_cell no_frame 0 []) k) s.0 s.1 (tell_at r first.cells k));
+            subst P (sym (cell_is first r k)) (good_cell (all_tell first.cells) c (view_at first.cells r) (all r (new_cell no_frame 0) k) s.0 s.1 (tell_at r first.cells k));
       };
       sized = λ r h. over_sized c r fs sizes h;
     }

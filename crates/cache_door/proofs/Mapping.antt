@@ -34,7 +34,7 @@ pub free_unheld : {tells : Bool} {files : ℕ → ℕ → List ℕ} (s : State) 
 free_unheld s r good e = any_off r s.holds (λ a h i j. let P : ℕ → Type 0 = λ k. is_in k s.policy.free ≡ false in false≢true (sym (subst P j (good.holds a h i).busy) ∙ e))
 
 -- so its cell has no tickets and no gaps
-no_weight : {X : Type 0} (xs : List X) → total (λ (x : X). 1) xs ≡ 0 → xs ≡ []
+pub no_weight : {X : Type 0} (xs : List X) → total (λ (x : X). 1) xs ≡ 0 → xs ≡ []
 no_weight [] e = refl
 no_weight (x ∷ xs) e = absurd (omega (arith, e))
 

@@ -42,17 +42,17 @@ one_weighs f (x ∷ xs) u l = elim (cases_lt 0 (f x)) [
   | inr p ↦ let r = one_weighs f xs (λ j k a b s t c d. let e = u (suc j) (suc k) a b s t c d in omega (arith, e)) l in omega (arith, r, p)
 ]
 
-some_none : {X : Type 0} {x : X} → None ≡ Some x → ⊥
+pub some_none : {X : Type 0} {x : X} → None ≡ Some x → ⊥
 some_none e = cc
 
-placed : {X : Type 0} (p : X → Bool) (xs : List X) (y : X) → find p xs ≡ Some y → (j : ℕ) × (slice_get xs j ≡ Some y)
+pub placed : {X : Type 0} (p : X → Bool) (xs : List X) (y : X) → find p xs ≡ Some y → (j : ℕ) × (slice_get xs j ≡ Some y)
 placed p [] y e = absurd (some_none e)
 placed p (x ∷ xs) y e = elim (cases_Bool (p x)) [
   | inl t ↦ (0, rw t at e)
   | inr f ↦ let k = placed p xs y (rw f at e) in (suc k.0, k.1)
 ]
 
-held_inside : (s : State) (a : ℕ) (h : Hold) → hold_at s a ≡ Some h → a < length s.holds
+pub held_inside : (s : State) (a : ℕ) (h : Hold) → hold_at s a ≡ Some h → a < length s.holds
 held_inside s a h e = elim (cases_lt a (length s.holds)) [
   | inl l ↦ l
   | inr g ↦ absurd (some_none (sym (past s.holds a None g) ∙ e))

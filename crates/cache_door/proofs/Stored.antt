@@ -64,7 +64,7 @@ module _ {tells : Bool} {files : ℕ → ℕ → List ℕ} (v u : CoreView) (is 
   within = inside v u is kept a o h read some actor_u
 
   x_is : view_at v.cells h.region ≡ x
-  x_is = read_is v.cells h.region x (new_cell no_frame 0 []) at within
+  x_is = read_is v.cells h.region x (new_cell no_frame 0) at within
 
   fit : FitsGap v.config.region (hold_view (Some h)) piece
   fit =
@@ -118,8 +118,8 @@ module _ {tells : Bool} {files : ℕ → ℕ → List ℕ} (v u : CoreView) (is 
     store_fault rose =
         let F : CellView → ℕ = λ c. c.metadata.frame.faults in
         let P : CoreView → Type 0 = λ c. Rose (all_faults c.cells) (all_faults (set v.cells h.region y)) in
-        let t = total-set F v.cells h.region y (new_cell no_frame 0 []) within in
-        let b = total-at F v.cells h.region (new_cell no_frame 0 []) within in
+        let t = total-set F v.cells h.region y (new_cell no_frame 0) within in
+        let b = total-at F v.cells h.region (new_cell no_frame 0) within in
         let e = ap F x_is in
         let r : min (x.metadata.frame.faults + 1) 18446744073709551615 ≤ y.metadata.frame.faults = rose in
         let later = stays.later in
@@ -138,13 +138,15 @@ module _ {tells : Bool} {files : ℕ → ℕ → List ℕ} (v u : CoreView) (is 
     abbrev moved : Hold
     moved = record h { gap = record h.gap { upto = to } }
 
-    module _ (ok : IfSome (gap_of h.gap.id x.metadata.region.tracker) (λ g. y.metadata.region ≡ cells.progress h.gap.id (g.upto + length piece.bytes) x.metadata.region))
-        (put : IsTrue x.metadata.frame.tells → IfSome (gap_of h.gap.id x.metadata.region.tracker) (λ g. y.bytes ≡ put_at g.upto piece.bytes x.bytes)) where
+    module _ (ok : IfSome (gap_of h.gap.id x.metadata.region.tracker) (cells.Stored h.gap.id piece.bytes x y)) where
+      put : cells.Stored h.gap.id piece.bytes x y h.gap
+      put = rw gap_is at ok
+
       progressed : y.metadata.region ≡ cells.progress h.gap.id to (cell_at s h.region).region
-      progressed = (rw gap_is at ok) ∙ ap (λ (q : Region). cells.progress h.gap.id to q) (sym region_s)
+      progressed = put.region ∙ ap (λ (q : Region). cells.progress h.gap.id to q) (sym region_s)
 
       put_is : IsTrue (all_tell v.cells) → y.bytes ≡ put_at h.gap.upto piece.bytes (cell_at s h.region).bytes
-      put_is all = (rw gap_is at (put (told_x all))) ∙ ap (λ (l : List ℕ). put_at h.gap.upto piece.bytes l) (sym (bytes_s all))
+      put_is all = put.bytes (told_x all) ∙ ap (λ (l : List ℕ). put_at h.gap.upto piece.bytes l) (sym (bytes_s all))
 
       cell_y : cell_of (all_tell v.cells) y ≡ record { region = cells.progress h.gap.id to (cell_at s h.region).region; bytes = if s.told then put_at h.gap.upto piece.bytes (cell_at s h.region).bytes else (cell_at s h.region).bytes }
       cell_y =
@@ -170,7 +172,7 @@ module _ {tells : Bool} {files : ℕ → ℕ → List ℕ} (v u : CoreView) (is 
           )
 
     -- ---- where the frame faulted
-    module _ (stood : y.metadata.region ≡ x.metadata.region) (outside : IsTrue x.metadata.frame.tells → IfSome (gap_of h.gap.id x.metadata.region.tracker) (λ g. SameOutside g.upto (length piece.bytes) x.bytes y.bytes)) where
+    module _ (stood : y.metadata.region ≡ x.metadata.region) (outside : IfSome (gap_of h.gap.id x.metadata.region.tracker) (cells.Unstored piece.bytes x y)) where
       region_y : (cell_of (all_tell v.cells) y).region ≡ (cell_at s h.region).region
       region_y = stood ∙ sym region_s
 
@@ -224,7 +226,7 @@ module _ {tells : Bool} {files : ℕ → ℕ → List ℕ} (v u : CoreView) (is 
 
       bytes_stand : (i : ℕ) → slice_get (cell_at s h.region).region.tracker.byte_states i ≡ Some present → slice_get (cell_of (all_tell v.cells) y).bytes i ≡ slice_get (cell_at s h.region).bytes i
       bytes_stand i e = stand_or_none (all_tell v.cells) i y.bytes (cell_at s h.region).bytes
-          (λ t. outside_get h.gap.upto (length piece.bytes) i x.bytes y.bytes (rw gap_is at (outside (told_x t))) (apart i e) ∙ ap (λ (l : List ℕ). slice_get l i) (sym (bytes_s t)))
+          (λ t. outside_get h.gap.upto (length piece.bytes) i x.bytes y.bytes ((rw gap_is at outside) (told_x t)) (apart i e) ∙ ap (λ (l : List ℕ). slice_get l i) (sym (bytes_s t)))
           no_bytes
 
       here : cell_at (with_cell h.region (cell_of (all_tell v.cells) y) s) h.region ≡ cell_of (all_tell v.cells) y

@@ -1,8 +1,10 @@
--- What every door tells: the hold, the counts of its work, and when it may be asked.
-use Rattle.std.specs.Prelude.{◌≡◌, ◌<◌, ◌≤◌, ◌+◌, ◌-◌, ◌*◌, ◌/◌, ◌^◌, ℕ, min, Bool, true, false, Option, Some, None, IfSome, Result, Ok, Err, List, length}
+-- What every door tells: its view, the counts of its work, and when it may be asked.
+use Rattle.std.specs.Prelude.{◌≡◌, ◌≢◌, ◌<◌, ◌≤◌, ◌+◌, ◌-◌, ◌*◌, ◌/◌, ◌==◌, ◌^◌, ℕ, min, Bool, true, false, Option, Some, None, IfSome, IsTrue, option_map, Result, Ok, Err, List, length, if◌then◌else◌}
 use Rattle.region_ranges.specs.declared.ranges.ByteRange.{ByteRange}
 use Rattle.region_ranges.specs.declared.keys.Config.{Config}
 use Rattle.region_ranges.specs.Keys.{IsKey, tag_of, manifest_of}
+use Rattle.cache_outside.specs.Causes.{Rose}
+use Rattle.blob_parts.specs.Content.{slice_of}
 use Rattle.region_cell.specs.Cells.{region_bytes, file_of, part_of}
 use Rattle.region_cell.specs.declared.taken.Taken.{Taken}
 use Rattle.region_cell.specs.declared.taken.Taken.TheVariants as taken
@@ -14,8 +16,10 @@ use Rattle.cache_door.specs.declared.answers.Glance.{Glance}
 use Rattle.cache_door.specs.declared.answers.Glance.TheVariants as glance
 use Rattle.cache_door.specs.declared.hold.Hold.{Hold}
 use Rattle.cache_door.specs.declared.work.Work.{Work}
-use Rattle.cache_door.specs.Machine.{State, SamePresent, hold_at, is_gone}
+use Rattle.cache_door.specs.Machine.{State, SamePresent, hold_at, is_gone, enter, take_bytes, look, store, fail, leave, bytes_in, wanted}
+use Rattle.cache_door.specs.Claims.{IsGap}
 use Rattle.cache_door.specs.Good.{Good}
+use Rattle.cache_door.specs.Counters.{CountersRisen}
 
 -- ---- the counts of a door's work
 
@@ -127,9 +131,129 @@ HasLength files config want = want.len ≡ length (region_bytes files config.reg
 abbrev pub IsEntry : Config → Want → Entered → Type 0
 IsEntry config want Gone = Unit {0}
 IsEntry config want NoRoom = Unit {0}
-IsEntry config want (Held r gap) = (r < config.regions) × IfSome gap (λ g. (g.start < g.end) × (want.sub.start / config.range * config.range ≤ g.start) × (g.end ≤ want.sub.start / config.range * config.range + config.range) × (g.end ≤ want.len))
+IsEntry config want (Held r gap) = (r < config.regions) × IfSome gap (IsGap config.range want.sub want.len)
 
--- ---- what may be told besides
+-- ---- a door
+
+-- no mount was taken away
+abbrev pub Grown : (ℕ → Bool) → (ℕ → Bool) → Type 0
+Grown old new = (m : ℕ) → old m ≡ true → new m ≡ true
+
+-- the mounts with one more
+abbrev pub with_mount : ℕ → (ℕ → Bool) → ℕ → Bool
+with_mount mount old m = if m == mount then true else old m
+
+-- What clauses see of a door: what its cache was made with, whether all frames of the cache tell their bytes, whether all of them
+-- are steady, so that none ever fails, what is held, the counts of its work, how often frames have failed, the mounts that it has
+-- seen gone, those that were unmounted through it, the state of the whole cache, where it is told, and the number of its actor there.
+pub record DoorView : Type 0 where
+  pub config : Config
+  pub frames_tell : Bool
+  pub frames_steady : Bool
+  pub hold : HoldView
+  pub work : Work
+  pub frame_faults : ℕ
+  pub seen_gone : ℕ → Bool
+  pub unmounted : ℕ → Bool
+  pub state : Option State
+  pub actor : ℕ
+
+-- what every call of a door keeps: nothing changes of the cache, no mount that was seen gone is taken away, and no count falls
+pub record DoorLater (before now : DoorView) : Type 0 where
+  pub config : now.config ≡ before.config
+  pub frames_tell : now.frames_tell ≡ before.frames_tell
+  pub frames_steady : now.frames_steady ≡ before.frames_steady
+  pub actor : now.actor ≡ before.actor
+  pub seen : Grown before.seen_gone now.seen_gone
+  pub faults : before.frame_faults ≤ now.frame_faults
+  pub steady : IsTrue before.frames_steady → now.frame_faults ≡ before.frame_faults
+  pub counters : (s t : State) → before.state ≡ Some s → now.state ≡ Some t → CountersRisen s.policy t.policy
+
+-- what is told of the state is that of the same cache: it is good, and its settings, hold and mounts are those that the door tells
+pub record Agrees (tells : Bool) (files : ℕ → ℕ → List ℕ) (d : DoorView) (s : State) : Type 0 where
+  pub good : Good tells files s
+  pub config : s.config ≡ d.config
+  pub told : s.told ≡ d.frames_tell
+  pub actor : d.actor < length s.holds
+  pub hold : d.hold ≡ hold_view (hold_at s d.actor)
+  pub gone : (m : ℕ) → (d.seen_gone m ≡ is_gone s m) × (d.unmounted m ≡ is_gone s m)
+
+-- ---- what a call of a door does, where the state is told
+
+-- the state went on by this step of the door's actor
+abbrev pub Becomes : DoorView → DoorView → (ℕ → State → State) → Type 0
+Becomes before now step = now.state ≡ option_map (step before.actor) before.state
+
+-- the answer is the machine's to the door's actor
+abbrev pub Answers : {T : Type 0} → DoorView → (ℕ → State → T) → T → Type 0
+Answers before machine answer = IfSome before.state (λ s. answer ≡ machine before.actor s)
+
+-- the machine's answer, or a frame's fault in place of a copy
+pub record CopyOrFault {T : Type 0} (copied fault machine answer : T) : Type 0 where
+  pub same : answer ≢ fault → answer ≡ machine
+  pub present : answer ≡ fault → machine ≡ copied
+
+abbrev pub AnswersCopy : {T : Type 0} → DoorView → T → T → (ℕ → State → T) → T → Type 0
+AnswersCopy before copied fault machine answer = IfSome before.state (λ s. CopyOrFault copied fault (machine before.actor s) answer)
+
+-- the machine's steps and answers, by its actor
+abbrev pub entry : ℕ → Want → ℕ → ℕ → State → State
+entry mount want now a s = (enter a mount want now s).1
+
+abbrev pub entry_answer : ℕ → Want → ℕ → ℕ → State → Entered
+entry_answer mount want now a s = (enter a mount want now s).0
+
+abbrev pub taking : ℕ → State → Taken
+taking a s = take_bytes (hold_at s a) s
+
+abbrev pub looking : ℕ → Want → ℕ → State → Glance
+looking r want a s = look r want s
+
+abbrev pub storing : List ℕ → ℕ → State → State
+storing piece a s = store a (hold_at s a) piece s
+
+abbrev pub failing : ℕ → State → State
+failing a s = fail a (hold_at s a) s
+
+abbrev pub leaving : ℕ → State → State
+leaving a s = leave a (hold_at s a) s
+
+-- ---- bytes, faults and refusals
+
+-- where archive and frames tell, the bytes are the content's of the tag's key at this range of its region
+abbrev pub AreContent : Bool → (ℕ → ℕ → List ℕ) → DoorView → ℕ → ByteRange → List ℕ → Type 0
+AreContent tells files d tag sub bytes = IsTrue tells → IsTrue d.frames_tell → bytes ≡ slice_of (region_bytes files d.config.region tag) sub.start (sub.end - sub.start)
+
+-- where archive and frames tell, the bytes are the content's that are held, and that are wanted
+abbrev pub AsHeld : Bool → (ℕ → ℕ → List ℕ) → DoorView → List ℕ → Type 0
+AsHeld tells files d bytes = AreContent tells files d d.hold.tag d.hold.sub bytes
+
+abbrev pub AsWanted : Bool → (ℕ → ℕ → List ℕ) → DoorView → Want → List ℕ → Type 0
+AsWanted tells files d want bytes = AreContent tells files d (tag_of want.key) want.sub bytes
+
+-- where state and frames tell, the bytes are those that the actor's hold wants in its cell
+abbrev pub AreHeld : DoorView → List ℕ → Type 0
+AreHeld d bytes = IfSome d.state (λ s. IsTrue s.told → bytes ≡ wanted (hold_at s d.actor) s)
+
+-- where state and frames tell, the bytes are the cell's of the region at this range
+abbrev pub AreStored : DoorView → ℕ → ByteRange → List ℕ → Type 0
+AreStored d r sub bytes = IfSome d.state (λ s. IsTrue s.told → bytes ≡ bytes_in r sub s)
+
+-- a frame failed: the count rose, and not all frames are steady
+pub record FrameFails (before now : DoorView) : Type 0 where
+  pub rose : Rose before.frame_faults now.frame_faults
+  pub unsteady : IsTrue before.frames_steady → ⊥
+
+abbrev pub IsHeld : Entered → Type 0
+IsHeld (Held r gap) = Unit {0}
+IsHeld NoRoom = ⊥
+IsHeld Gone = ⊥
+
+-- an entry for which memory was wanted left all as before, and with memory it would have been answered by a hold
+pub record LacksMemory (before now : DoorView) (machine : ℕ → State → Entered) : Type 0 where
+  pub state : now.state ≡ before.state
+  pub seen : now.seen_gone ≡ before.seen_gone
+  pub held : IfSome before.state (λ s. IsHeld (machine before.actor s))
 
 -- where the state is told, it is the one before but for bytes that are not present
 abbrev pub SameState : Option State → Option State → Type 0
@@ -137,16 +261,3 @@ SameState None None = Unit {0}
 SameState (Some s) (Some t) = SamePresent s t
 SameState None (Some t) = ⊥
 SameState (Some s) None = ⊥
-
--- no mount was taken away
-abbrev pub Grown : (ℕ → Bool) → (ℕ → Bool) → Type 0
-Grown old new = (m : ℕ) → old m ≡ true → new m ≡ true
-
--- what is told of the state is that of the same cache: it is good, and its settings, hold and mounts are those that the door tells
-pub record Agrees (tells : Bool) (files : ℕ → ℕ → List ℕ) (c : Config) (t : Bool) (h : HoldView) (a : ℕ) (seen unmounted : ℕ → Bool) (s : State) : Type 0 where
-  pub good : Good tells files s
-  pub config : s.config ≡ c
-  pub told : s.told ≡ t
-  pub actor : a < length s.holds
-  pub hold : h ≡ hold_view (hold_at s a)
-  pub gone : (m : ℕ) → (seen m ≡ is_gone s m) × (unmounted m ≡ is_gone s m)

@@ -133,6 +133,9 @@ enter_at (Some r) a want now s =
     then hold a r want (record s { policy = touch r now s.policy })
     else (NoRoom, s)
 
+abbrev pub entered : Option ℕ → ℕ → Want → ℕ → State → State
+entered o a want now s = (enter_at o a want now s).1
+
 -- the entry of actor a for a mount at the time `now`: its answer, and the state behind it
 abbrev pub enter : ℕ → ℕ → Want → ℕ → State → Entered × State
 enter a mount want now s = if is_gone s mount then (Gone, s) else enter_at (policy.find (tag_of want.key) s.policy) a want now s

@@ -1,5 +1,5 @@
 -- The bytes that a read takes from the source, where the state is told and one actor works alone.
-use Rattle.std.specs.Prelude.{◌+◌, ◌-◌, ◌*◌, ◌/◌, ◌==◌, ℕ, min, max, List, [], ◌∷◌, ◌++◌, length, map, Some, None, if◌then◌else◌}
+use Rattle.std.specs.Prelude.{◌≡◌, ◌+◌, ◌-◌, ◌*◌, ◌/◌, ◌==◌, ℕ, min, max, Bool, true, List, [], ◌∷◌, ◌++◌, length, map, slice_get, Some, None, if◌then◌else◌}
 use Rattle.std.specs.List.{range_with_len, flat_map}
 use Rattle.region_ranges.specs.declared.ranges.ByteRange.{ByteRange}
 use Rattle.blob_parts.specs.Content.{slice_of}
@@ -56,3 +56,7 @@ takes a mount m f bytes whole now s = run_over (visit a mount m f bytes now) (pa
 -- blob and place of the single bytes of these ranges of a file, in order, where `places` are those of the whole file
 abbrev pub spread_over : List (ℕ × ℕ) → List ByteRange → List (ℕ × ℕ)
 spread_over places ranges = flat_map (λ (r : ByteRange). slice_of places r.start (r.end - r.start)) ranges
+
+-- no place of a part stands twice among these places of blobs; `is_part` says which blobs are parts of files, and not manifests
+abbrev pub Once : (ℕ → Bool) → List (ℕ × ℕ) → Type 0
+Once is_part places = (i j : ℕ) (p : ℕ × ℕ) → is_part p.0 ≡ true → slice_get places i ≡ Some p → slice_get places j ≡ Some p → i ≡ j

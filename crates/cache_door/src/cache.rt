@@ -1,20 +1,19 @@
 //! A cache of regions, used by one actor at a time.
 
-ghost use Rattle.std.specs.Prelude.{◌≡◌, ◌≢◌, ◌<◌, ◌≤◌, ◌+◌, ◌-◌, max, slice_set, Some, None, ℕ, IfOk, IfSome, IsSome, IsTrue, true, IsOk, OnOk, OnErr, length, map, option_map, Ok, if◌then◌else◌, []};
+ghost use Rattle.std.specs.Prelude.{◌≡◌, ◌<◌, ◌≤◌, ◌+◌, ◌-◌, Some, None, ℕ, IfOk, IfSome, IsSome, IsTrue, true, OnOk, OnErr, length};
 ghost use Rattle.std.specs.List.{All, list_all};
 ghost use Rattle.region_ranges.specs.Keys.{IsConfig, IsKey, tag_of};
 ghost use Rattle.freq_lists.specs.Lists.{head};
 ghost use Rattle.sparse_tracker.specs.Weights.{total};
-ghost use Rattle.cache_policy.specs.Policy.{mapped_len, find, tag_at};
-ghost use Rattle.cache_policy.specs.Ageing.{touch, map_front};
-ghost use Rattle.cache_outside.specs.Causes.{Rose};
-ghost use Rattle.blob_parts.specs.Content.{content, slice_of};
-ghost use Rattle.region_cell.specs.Cells.{region_bytes, len_of, with_region, assign};
+ghost use Rattle.cache_policy.specs.Policy.{find, tag_at};
+ghost use Rattle.cache_policy.specs.Ageing.{touch};
+ghost use Rattle.blob_parts.specs.Content.{content};
+ghost use Rattle.region_cell.specs.Cells.{len_of};
 ghost use Rattle.region_cell.specs.declared.taken.Taken.TheVariants as taken;
 ghost use Rattle.cache_door.specs.declared.answers.Glance.TheVariants as glance;
-ghost use Rattle.cache_door.specs.Machine.{new_state, enter, take_bytes, wanted, bytes_in, store, fail, leave, look, age, clear, unmount, hold_at, is_gone, enter_at, room_by, hold, SamePresent};
-ghost use Rattle.cache_door.specs.Doors.{Works, no_work, entry_work, take_work, glance_work, store_work, FitsGap, IsWant, HasLength, IsEntry, hold_view, failed_hold, stored_hold, nothing};
-ghost use Rattle.cache_door.specs.Cores.{state_of, view_at, all_tell, all_steady, all_faults, IsKept, Later};
+ghost use Rattle.cache_door.specs.Machine.{enter, fail, leave, look, age, clear, unmount, hold_at, is_gone, enter_at, entered, room_by, hold, SamePresent};
+ghost use Rattle.cache_door.specs.Doors.{Works, no_work, entry_work, take_work, glance_work, store_work, FitsGap, IsWant, HasLength, IsEntry, failed_hold, stored_hold, nothing, CopyOrFault, taking, storing, AsHeld, AreHeld, AreStored, FrameFails};
+ghost use Rattle.cache_door.specs.Cores.{state_of, held_by, door_of, CopiesWant, view_at, all_tell, all_steady, all_faults, first_state, tally_of, with_spare, assigned, Unentered, IsKept, Later};
 
 use crate::answers::{Entered, Glance, Want};
 use crate::cells::cells_over;
@@ -32,8 +31,8 @@ use sparse_tracker::{OpenGap, gap_weights, ticket_weights};
 use std::alloc::{AllocError, Global};
 use std::marker::Model;
 
-/// A cache of regions over frames, used by one actor at a time. Clauses see its settings, the policy, the cells by region, the
-/// holds by actor, for each mount number whether it was unmounted, and the counts of its work.
+/// A cache of regions over frames, used by one actor at a time. Clauses see its settings, the policy, the cells by
+/// region, the holds by actor, for each mount number whether it was unmounted, and the counts of its work.
 #[derive(Drop)]
 pub struct Core<A: Archive, F: Frame> {
     config: Config,
@@ -55,12 +54,14 @@ impl<A: Archive, F: Frame> Model for Core<A, F> {
 
     ghost view = { λ c. core_view c.config c.policy c.cells.items c.holds.items c.gone.items c.work };
 
-    ghost invariant = { λ c. IsKept A.tells (content A.blobs) (core_view c.config c.policy c.cells.items c.holds.items c.gone.items c.work) };
+    ghost invariant = { λ c.
+        IsKept A.tells (content A.blobs)
+            (core_view c.config c.policy c.cells.items c.holds.items c.gone.items c.work) };
 }
 
 impl<A: Archive + Drop, F: Frame + Drop> Core<A, F> {
-    /// A cache of empty regions over these frames, one for each region and of its size, for so many actors, of which none holds
-    /// anything. It takes all memory that a core needs, but that for claims.
+    /// A cache of empty regions over these frames, one for each region and of its size, for so many actors, of which
+    /// none holds anything. It takes all memory that a core needs, but that for claims.
     pub fn new(
         alloc: Global,
         config: &Config,
@@ -69,11 +70,11 @@ impl<A: Archive + Drop, F: Frame + Drop> Core<A, F> {
     ) -> Result<Core<A, F>, AllocError>
         requires config { IsConfig config.now }
         requires count { length frames.items ≡ config.now.regions }
-        requires sizes { All (λ f. F.size f ≡ config.now.region) frames.items }
+        requires sizes { All (λ f. (F.view f).size ≡ config.now.region) frames.items }
         requires actors { (0 < actors) × (actors < 65) }
-        ensures state { IfOk result (λ c. state_of c ≡ new_state config.now (list_all F.tells frames.items) (map (λ f. if list_all F.tells frames.items then F.bytes f else []) frames.items) actors) }
-        ensures steady { IfOk result (λ c. all_steady c.cells ≡ list_all F.steady frames.items) }
-        ensures faults { IfOk result (λ c. all_faults c.cells ≡ total F.faults frames.items) }
+        ensures state { IfOk result (λ c. state_of c ≡ first_state config.now F.view frames.items actors) }
+        ensures steady { IfOk result (λ c. all_steady c.cells ≡ list_all (λ f. (F.view f).steady) frames.items) }
+        ensures faults { IfOk result (λ c. all_faults c.cells ≡ total (λ f. (F.view f).faults) frames.items) }
         ensures work { IfOk result (λ c. c.work ≡ no_work) }
     {
         let policy = Policy::new(alloc, config)?;
@@ -114,7 +115,7 @@ impl<A: Archive + Drop, F: Frame + Drop> Core<A, F> {
 
     /// The policy's counters, and how many regions are mapped.
     pub fn tally(&self) -> Tally4
-        ensures { result ≡ record { evictions = self.now.policy.evictions; promotions = self.now.policy.promotions; demotions = self.now.policy.demotions; listed = mapped_len self.now.policy } }
+        ensures { result ≡ tally_of self.now.policy }
     {
         self.policy.tally()
     }
@@ -133,9 +134,8 @@ impl<A: Archive + Drop, F: Frame + Drop> Core<A, F> {
         self.work.rest();
     }
 
-    /// What the actor holds, as tests ask.
-    #[cfg(test)]
-    pub(crate) fn hold_of(&self, actor: u32) -> Option<Hold>
+    /// What the actor holds, or None: the conditions of the calls of its door can be tested by it.
+    pub fn hold_of(&self, actor: u32) -> Option<Hold>
         requires { actor < length self.now.holds }
         ensures { result ≡ hold_at (state_of self.now) actor }
     {
@@ -153,13 +153,13 @@ impl<A: Archive + Drop, F: Frame + Drop> Core<A, F> {
         now: u64,
     ) -> Result<Entered, AllocError>
         requires actor { actor < length self.old.holds }
-        requires free { hold_view (hold_at (state_of self.old) actor) ≡ nothing }
+        requires free { held_by self.old actor ≡ nothing }
         requires mount { mount < 4096 }
         requires want { IsWant self.old.config want.now }
         requires whole { IsTrue A.tells → HasLength (content A.blobs) self.old.config want.now }
         ensures answer { IfOk result (λ e. e ≡ (enter actor mount want.now now (state_of self.old)).0) }
         ensures state { OnOk result (state_of self.new ≡ (enter actor mount want.now now (state_of self.old)).1) }
-        ensures memory { OnErr result (state_of self.new ≡ state_of self.old) }
+        ensures memory { OnErr result (Unentered self.old self.new (enter actor mount want.now now)) }
         ensures entry { IfOk result (IsEntry self.old.config want.now) }
         ensures later { Later self.old self.new }
         ensures work { Works self.old.work self.new.work (entry_work result) }
@@ -185,7 +185,7 @@ impl<A: Archive + Drop, F: Frame + Drop> Core<A, F> {
         requires whole { IsTrue A.tells → HasLength (content A.blobs) self.old.config want.now }
         ensures answer { IfOk result (λ e. e ≡ (enter actor mount want.now now (state_of self.old)).0) }
         ensures state { OnOk result (state_of self.new ≡ (enter actor mount want.now now (state_of self.old)).1) }
-        ensures memory { OnErr result (state_of self.new ≡ state_of self.old) }
+        ensures memory { OnErr result (Unentered self.old self.new (enter actor mount want.now now)) }
         ensures entry { IfOk result (IsEntry self.old.config want.now) }
         ensures later { Later self.old self.new }
         ensures work { self.new.work ≡ self.old.work }
@@ -228,8 +228,8 @@ impl<A: Archive + Drop, F: Frame + Drop> Core<A, F> {
         requires want { IsWant self.old.config want.now }
         requires mapped { tag_at self.old.policy region ≡ Some (tag_of want.now.key) }
         ensures answer { IfOk result (λ e. e ≡ (enter_at (Some region) actor want.now now (state_of self.old)).0) }
-        ensures state { OnOk result (state_of self.new ≡ (enter_at (Some region) actor want.now now (state_of self.old)).1) }
-        ensures memory { OnErr result (state_of self.new ≡ state_of self.old) }
+        ensures state { OnOk result (state_of self.new ≡ entered (Some region) actor want.now now (state_of self.old)) }
+        ensures memory { OnErr result (Unentered self.old self.new (enter_at (Some region) actor want.now now)) }
         ensures entry { IfOk result (IsEntry self.old.config want.now) }
         ensures later { Later self.old self.new }
         ensures work { self.new.work ≡ self.old.work }
@@ -252,7 +252,7 @@ impl<A: Archive + Drop, F: Frame + Drop> Core<A, F> {
         requires new { find (tag_of want.now.key) self.old.policy ≡ None }
         ensures answer { IfOk result (λ e. e ≡ (enter_at None actor want.now now (state_of self.old)).0) }
         ensures state { OnOk result (state_of self.new ≡ (enter_at None actor want.now now (state_of self.old)).1) }
-        ensures memory { OnErr result (state_of self.new ≡ state_of self.old) }
+        ensures memory { OnErr result (Unentered self.old self.new (enter_at None actor want.now now)) }
         ensures entry { IfOk result (IsEntry self.old.config want.now) }
         ensures later { Later self.old self.new }
         ensures work { self.new.work ≡ self.old.work }
@@ -285,7 +285,7 @@ impl<A: Archive + Drop, F: Frame + Drop> Core<A, F> {
     // Room for one more claim in the region's cell, so that no claim wants memory later.
     fn reserve(&mut self, region: u32) -> Result<(), AllocError>
         requires { region < length self.old.cells }
-        ensures ok { OnOk result (self.new ≡ record self.old { cells = slice_set self.old.cells region (record (view_at self.old.cells region) { spare = max (view_at self.old.cells region).spare 1 }) }) }
+        ensures ok { OnOk result (self.new ≡ with_spare region self.old) }
         ensures err { OnErr result (self.new ≡ self.old) }
     {
         let cell = &mut self.cells[region as usize];
@@ -315,7 +315,7 @@ impl<A: Archive + Drop, F: Frame + Drop> Core<A, F> {
         requires want { IsWant self.old.config want.now }
         requires whole { IsTrue A.tells → HasLength (content A.blobs) self.old.config want.now }
         requires new { find (tag_of want.now.key) self.old.policy ≡ None }
-        ensures assigned { self.new ≡ record self.old { policy = map_front region (tag_of want.now.key) now self.old.policy; cells = slice_set self.old.cells region (with_region (assign (tag_of want.now.key) want.now.len (view_at self.old.cells region).metadata.region) (view_at self.old.cells region)) } }
+        ensures assigned { self.new ≡ assigned region want.now now self.old }
         ensures mapped { tag_at self.new.policy region ≡ Some (tag_of want.now.key) }
     {
         self.policy.map(region, want.key, now);
@@ -350,14 +350,13 @@ impl<A: Archive + Drop, F: Frame + Drop> Core<A, F> {
     /// `CacheDoor::take_bytes` of this actor.
     pub(crate) fn take_bytes(&mut self, actor: u32, out: &mut [u8]) -> Taken
         requires actor { actor < length self.old.holds }
-        requires held { (hold_view (hold_at (state_of self.old) actor)).held ≡ true }
-        requires len { length out.old ≡ (hold_view (hold_at (state_of self.old) actor)).sub.end - (hold_view (hold_at (state_of self.old) actor)).sub.start }
+        requires held { (held_by self.old actor).held ≡ true }
+        requires len { length out.old ≡ (held_by self.old actor).sub.end - (held_by self.old actor).sub.start }
         ensures state { state_of self.new ≡ state_of self.old }
-        ensures answer { result ≢ taken.FrameFault → result ≡ take_bytes (hold_at (state_of self.old) actor) (state_of self.old) }
-        ensures copied { IsTrue (all_tell self.old.cells) → result ≡ taken.Copied → out.new ≡ wanted (hold_at (state_of self.old) actor) (state_of self.old) }
-        ensures bytes { IsTrue A.tells → IsTrue (all_tell self.old.cells) → result ≡ taken.Copied → out.new ≡ slice_of (region_bytes (content A.blobs) self.old.config.region (hold_view (hold_at (state_of self.old) actor)).tag) (hold_view (hold_at (state_of self.old) actor)).sub.start ((hold_view (hold_at (state_of self.old) actor)).sub.end - (hold_view (hold_at (state_of self.old) actor)).sub.start) }
-        ensures fault { result ≡ taken.FrameFault → Rose (all_faults self.old.cells) (all_faults self.new.cells) }
-        ensures steady { IsTrue (all_steady self.old.cells) → result ≢ taken.FrameFault }
+        ensures answer { CopyOrFault taken.Copied taken.FrameFault (taking actor (state_of self.old)) result }
+        ensures copied { result ≡ taken.Copied → AreHeld (door_of self.old actor) out.new }
+        ensures bytes { result ≡ taken.Copied → AsHeld A.tells (content A.blobs) (door_of self.old actor) out.new }
+        ensures fault { result ≡ taken.FrameFault → FrameFails (door_of self.old actor) (door_of self.new actor) }
         ensures later { Later self.old self.new }
         ensures work { Works self.old.work self.new.work (take_work result) }
     {
@@ -377,11 +376,10 @@ impl<A: Archive + Drop, F: Frame + Drop> Core<A, F> {
         requires want { IsWant self.old.config want.now }
         requires len { length out.old ≡ want.now.sub.end - want.now.sub.start }
         ensures state { state_of self.new ≡ state_of self.old }
-        ensures answer { result ≢ glance.FrameFault → result ≡ look region want.now (state_of self.old) }
-        ensures copied { IsTrue (all_tell self.old.cells) → result ≡ glance.Copied → out.new ≡ bytes_in region want.now.sub (state_of self.old) }
-        ensures bytes { IsTrue A.tells → IsTrue (all_tell self.old.cells) → result ≡ glance.Copied → out.new ≡ slice_of (region_bytes (content A.blobs) self.old.config.region (tag_of want.now.key)) want.now.sub.start (want.now.sub.end - want.now.sub.start) }
-        ensures fault { result ≡ glance.FrameFault → Rose (all_faults self.old.cells) (all_faults self.new.cells) }
-        ensures steady { IsTrue (all_steady self.old.cells) → result ≢ glance.FrameFault }
+        ensures answer { CopyOrFault glance.Copied glance.FrameFault (look region want.now (state_of self.old)) result }
+        ensures copied { result ≡ glance.Copied → AreStored (door_of self.old 0) region want.now.sub out.new }
+        ensures bytes { result ≡ glance.Copied → CopiesWant A.tells (content A.blobs) self.old want.now out.new }
+        ensures fault { result ≡ glance.FrameFault → FrameFails (door_of self.old 0) (door_of self.new 0) }
         ensures later { Later self.old self.new }
         ensures work { Works self.old.work self.new.work (glance_work result) }
     {
@@ -394,13 +392,12 @@ impl<A: Archive + Drop, F: Frame + Drop> Core<A, F> {
     /// `CacheDoor::store` of this actor.
     pub(crate) fn store(&mut self, actor: u32, piece: &Piece<A>) -> Result<(), FrameFault>
         requires actor { actor < length self.old.holds }
-        requires held { (hold_view (hold_at (state_of self.old) actor)).held ≡ true }
-        requires piece { FitsGap self.old.config.region (hold_view (hold_at (state_of self.old) actor)) piece.now }
-        ensures state { OnOk result (state_of self.new ≡ store actor (hold_at (state_of self.old) actor) piece.now.bytes (state_of self.old)) }
+        requires held { (held_by self.old actor).held ≡ true }
+        requires piece { FitsGap self.old.config.region (held_by self.old actor) piece.now }
+        ensures state { OnOk result (state_of self.new ≡ storing piece.now.bytes actor (state_of self.old)) }
         ensures same { OnErr result (SamePresent (state_of self.old) (state_of self.new)) }
-        ensures hold { hold_view (hold_at (state_of self.new) actor) ≡ stored_hold (length piece.now.bytes) result (hold_view (hold_at (state_of self.old) actor)) }
-        ensures fault { OnErr result (Rose (all_faults self.old.cells) (all_faults self.new.cells)) }
-        ensures steady { IsTrue (all_steady self.old.cells) → IsOk result }
+        ensures hold { held_by self.new actor ≡ stored_hold (length piece.now.bytes) result (held_by self.old actor) }
+        ensures fault { OnErr result (FrameFails (door_of self.old actor) (door_of self.new actor)) }
         ensures later { Later self.old self.new }
         ensures work { Works self.old.work self.new.work (store_work (length piece.now.bytes) result) }
     {
@@ -430,10 +427,10 @@ impl<A: Archive + Drop, F: Frame + Drop> Core<A, F> {
     /// `CacheDoor::fail` of this actor.
     pub(crate) fn fail(&mut self, actor: u32)
         requires actor { actor < length self.old.holds }
-        requires held { (hold_view (hold_at (state_of self.old) actor)).held ≡ true }
-        requires open { (hold_view (hold_at (state_of self.old) actor)).upto < (hold_view (hold_at (state_of self.old) actor)).gap_end }
+        requires held { (held_by self.old actor).held ≡ true }
+        requires open { (held_by self.old actor).upto < (held_by self.old actor).gap_end }
         ensures state { state_of self.new ≡ fail actor (hold_at (state_of self.old) actor) (state_of self.old) }
-        ensures hold { hold_view (hold_at (state_of self.new) actor) ≡ failed_hold (hold_view (hold_at (state_of self.old) actor)) }
+        ensures hold { held_by self.new actor ≡ failed_hold (held_by self.old actor) }
         ensures later { Later self.old self.new }
         ensures work { Works self.old.work self.new.work no_work }
     {
@@ -455,10 +452,10 @@ impl<A: Archive + Drop, F: Frame + Drop> Core<A, F> {
     /// `CacheDoor::leave` of this actor.
     pub(crate) fn leave(&mut self, actor: u32)
         requires actor { actor < length self.old.holds }
-        requires held { (hold_view (hold_at (state_of self.old) actor)).held ≡ true }
-        requires closed { (hold_view (hold_at (state_of self.old) actor)).gap_end ≤ (hold_view (hold_at (state_of self.old) actor)).upto }
+        requires held { (held_by self.old actor).held ≡ true }
+        requires closed { (held_by self.old actor).gap_end ≤ (held_by self.old actor).upto }
         ensures state { state_of self.new ≡ leave actor (hold_at (state_of self.old) actor) (state_of self.old) }
-        ensures hold { hold_view (hold_at (state_of self.new) actor) ≡ nothing }
+        ensures hold { held_by self.new actor ≡ nothing }
         ensures later { Later self.old self.new }
         ensures work { Works self.old.work self.new.work no_work }
     {

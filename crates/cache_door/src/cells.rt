@@ -16,8 +16,8 @@ pub(crate) fn cells_over<A: Archive + Drop, F: Frame + Drop>(
     frames: Vec<F>,
 ) -> Result<Vec<RegionCell<A, F>>, AllocError>
     requires config { IsConfig config.now }
-    requires sizes { All (λ f. F.size f ≡ config.now.region) frames.items }
-    ensures cells { IfOk result (λ c. c.items ≡ map (λ f. new_cell (record { faults = F.faults f; size = F.size f; tells = F.tells f; steady = F.steady f }) config.now.range (F.bytes f)) frames.items) }
+    requires sizes { All (λ f. (F.view f).size ≡ config.now.region) frames.items }
+    ensures cells { IfOk result (λ c. c.items ≡ map (λ f. new_cell (F.view f) config.now.range) frames.items) }
     ensures good { IfOk result (λ c. All (λ x. IsGood A.tells (content A.blobs) x) c.items) }
 {
     let mut cells = Vec::with_capacity(alloc, frames.len())?;

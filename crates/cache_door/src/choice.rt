@@ -1,5 +1,5 @@
-//! Which region an entry for another key takes: the front free one, after the leaving regions that nobody holds were settled and,
-//! where none is free then, the first candidate that nobody holds was evicted.
+//! Which region an entry for another key takes: the front free one, after the leaving regions that nobody holds were
+//! settled and, where none is free then, the first candidate that nobody holds was evicted.
 
 ghost use Rattle.std.specs.Prelude.{◌≡◌, IfSome, IsSome};
 ghost use Rattle.freq_lists.specs.Lists.{head};

@@ -1,12 +1,13 @@
 //! What an actor does with one region's cell: a claim for a new hold, and a look without one.
 
-ghost use Rattle.std.specs.Prelude.{◌≡◌, ◌≢◌, ◌<◌, ◌≤◌, ◌+◌, ◌-◌, ◌*◌, ◌/◌, IfSome, IsTrue, length};
-ghost use Rattle.blob_parts.specs.Content.{content, slice_of};
+ghost use Rattle.std.specs.Prelude.{◌≡◌, ◌<◌, ◌-◌, ◌/◌, IfSome, length};
+ghost use Rattle.blob_parts.specs.Content.{content};
 ghost use Rattle.region_ranges.specs.Keys.{IsKey};
-ghost use Rattle.region_cell.specs.Cells.{LiesInRange, IsGood, claim_run, claim, with_region, with_frame, len_of, FrameStays, Faulted, region_bytes};
+ghost use Rattle.region_cell.specs.Cells.{LiesInRange, IsGood, claim_run, claimed, len_of, FrameOnly, Faulted, CellBytes, RangeContent};
 ghost use Rattle.cache_door.specs.Machine.{hold_on, no_gap, look_at};
 ghost use Rattle.cache_door.specs.declared.answers.Glance.TheVariants as glance;
-ghost use Rattle.cache_door.specs.Claims.{gap_opened};
+ghost use Rattle.cache_door.specs.Claims.{gap_opened, IsGap};
+ghost use Rattle.cache_door.specs.Doors.{CopyOrFault};
 
 use crate::answers::{Glance, Want};
 use crate::hold::Hold;
@@ -49,10 +50,10 @@ pub fn claim<A: Archive, F: Frame>(
     requires key { IsKey want.now.key }
     requires lies { LiesInRange want.now.sub cell.old.metadata }
     requires room { 0 < cell.old.spare }
-    ensures cell { cell.new ≡ record (with_region (claim cell.old.metadata.range want.now.sub cell.old.metadata.region) cell.old) { spare = cell.old.spare - 1 } }
+    ensures cell { cell.new ≡ claimed want.now.sub cell.old }
     ensures hold { result.0 ≡ hold_on cell.old.metadata.range region want.now cell.old.metadata.region }
     ensures gap { result.1 ≡ claim_run cell.old.metadata.range want.now.sub cell.old.metadata.region }
-    ensures inside { IfSome result.1 (λ g. (g.start < g.end) × (want.now.sub.start / cell.old.metadata.range * cell.old.metadata.range ≤ g.start) × (g.end ≤ want.now.sub.start / cell.old.metadata.range * cell.old.metadata.range + cell.old.metadata.range) × (g.end ≤ len_of cell.old.metadata.region)) }
+    ensures inside { IfSome result.1 (IsGap cell.old.metadata.range want.now.sub (len_of cell.old.metadata.region)) }
     ensures good { IsGood A.tells (content A.blobs) cell.new }
 {
     claim_places();
@@ -90,13 +91,11 @@ pub fn look<A: Archive, F: Frame>(
     requires some { want.now.sub.start < want.now.sub.end }
     requires one { want.now.sub.start / cell.old.metadata.range ≡ (want.now.sub.end - 1) / cell.old.metadata.range }
     requires len { length out.old ≡ want.now.sub.end - want.now.sub.start }
-    ensures same { cell.new ≡ with_frame cell.new.metadata.frame cell.old }
-    ensures frame { FrameStays cell.old.metadata.frame cell.new.metadata.frame }
-    ensures answer { result ≢ glance.FrameFault → result ≡ look_at want.now cell.old.metadata.region }
+    ensures same { FrameOnly cell.old cell.new }
+    ensures answer { CopyOrFault glance.Copied glance.FrameFault (look_at want.now cell.old.metadata.region) result }
     ensures fault { result ≡ glance.FrameFault → Faulted cell.old.metadata.frame cell.new.metadata.frame }
-    ensures steady { IsTrue cell.old.metadata.frame.steady → result ≢ glance.FrameFault }
-    ensures bytes { IsTrue cell.old.metadata.frame.tells → result ≡ glance.Copied → out.new ≡ slice_of cell.old.bytes want.now.sub.start (want.now.sub.end - want.now.sub.start) }
-    ensures content { IsTrue A.tells → IsTrue cell.old.metadata.frame.tells → result ≡ glance.Copied → out.new ≡ slice_of (region_bytes (content A.blobs) cell.old.metadata.frame.size cell.old.metadata.region.tag) want.now.sub.start (want.now.sub.end - want.now.sub.start) }
+    ensures bytes { result ≡ glance.Copied → CellBytes cell.old want.now.sub.start want.now.sub.end out.new }
+    ensures content { result ≡ glance.Copied → RangeContent A.tells (content A.blobs) cell.old want.now.sub out.new }
 {
     let tag = tag(cell);
     if tag != want.key.pack() {

@@ -1,11 +1,9 @@
 //! One actor's door of a core.
 
-ghost use Rattle.std.specs.Prelude.{◌≡◌, ◌≢◌, ◌<◌, ◌≤◌, ◌-◌, ◌==◌, ℕ, true, Some, IfSome, IfOk, OnOk, OnErr, IsTrue, length, option_map, if◌then◌else◌, Ok};
-ghost use Rattle.region_ranges.specs.declared.keys.Config.{Config};
-ghost use Rattle.cache_door.specs.declared.work.Work.{Work};
-ghost use Rattle.cache_door.specs.Machine.{State, hold_at, is_gone};
-ghost use Rattle.cache_door.specs.Doors.{HoldView, hold_view};
-ghost use Rattle.cache_door.specs.Cores.{state_of, all_tell, all_steady, all_faults, Later};
+ghost use Rattle.std.specs.Prelude.{◌≡◌, ◌<◌, length};
+ghost use Rattle.cache_door.specs.Machine.{is_gone};
+ghost use Rattle.cache_door.specs.Doors.{DoorView, Grown};
+ghost use Rattle.cache_door.specs.Cores.{state_of, door_of, Later};
 
 use crate::answers::{Entered, Glance, Want};
 use crate::cache::Core;
@@ -46,97 +44,60 @@ pub fn core_crosses<A: Archive + Send, F: Frame + Send>() {
 impl<'a, A: Archive + Drop, F: Frame + Drop> CacheDoor<A> for CoreDoor<'a, A, F> {
     ghost use Rattle.std.specs.Prelude.{refl};
     ghost use Rattle.std.proofs.Common.{◌∙◌};
-    ghost use Rattle.cache_door.specs.Stays.{later_same, later_on};
+    ghost use Rattle.cache_door.specs.Stays.{later_same, later_on, door_later};
 
-    ghost hold = { λ d. hold_view (hold_at (state_of d.core.now) d.actor) };
+    ghost view = { λ d. door_of d.core.now d.actor };
 
-    ghost config = { λ d. d.core.now.config };
-
-    ghost frames_tell = { λ d. all_tell d.core.now.cells };
-
-    ghost frames_steady = { λ d. all_steady d.core.now.cells };
-
-    ghost frame_faults = { λ d. all_faults d.core.now.cells };
-
-    ghost seen_gone = { λ d m. is_gone (state_of d.core.now) m };
-
-    ghost unmounted = { λ d m. is_gone (state_of d.core.now) m };
-
-    ghost work = { λ d. d.core.now.work };
-
-    ghost state = { λ d. Some (state_of d.core.now) };
-
-    ghost actor = { λ d. d.actor };
-
-    ghost stays = { λ x y. (y.core.ghost_name ≡ x.core.ghost_name) × (y.actor ≡ x.actor) × Later x.core.now y.core.now };
+    ghost stays = { λ x y. (y.core.ghost_name ≡ x.core.ghost_name) × (y.actor ≡ x.actor) × Later x.core.now y.core.now
+        × Grown (is_gone (state_of x.core.now)) (is_gone (state_of y.core.now)) };
 
     fn enter(&mut self, mount: u32, want: &Want, now: u64) -> Result<Entered, AllocError> {
-        let entered = self.core.enter(self.actor, mount, want, now);
-        self.core.lesson();
-        entered
+        self.core.enter(self.actor, mount, want, now)
     }
 
     fn take_bytes(&mut self, out: &mut [u8]) -> Taken {
-        let taken = self.core.take_bytes(self.actor, out);
-        self.core.lesson();
-        taken
+        self.core.take_bytes(self.actor, out)
     }
 
     fn store(&mut self, piece: &Piece<A>) -> Result<(), FrameFault> {
-        let stored = self.core.store(self.actor, piece);
-        self.core.lesson();
-        stored
+        self.core.store(self.actor, piece)
     }
 
     fn fail(&mut self) {
         self.core.fail(self.actor);
-        self.core.lesson();
     }
 
     fn leave(&mut self) {
         self.core.leave(self.actor);
-        self.core.lesson();
     }
 
     fn glance(&mut self, region: u32, want: &Want, out: &mut [u8]) -> Glance {
-        let seen = self.core.glance(region, want, out);
-        self.core.lesson();
-        seen
+        self.core.glance(region, want, out)
     }
 
     fn decay(&mut self, now: u64) {
         self.core.decay(now);
-        self.core.lesson();
     }
 
     fn clear(&mut self, manifest: u32) {
         self.core.clear(manifest);
-        self.core.lesson();
     }
 
     fn live(&mut self, _mount: u32) {
-        self.core.lesson();
         self.core.rest();
     }
 
     fn unmount(&mut self, mount: u32, manifest: u32) {
         self.core.unmount(mount, manifest);
-        self.core.lesson();
     }
 
     fn lesson(&self) {
         self.core.lesson();
     }
 
-    ghost stays_same = { λ x. (refl, refl, later_same x.core.now) };
+    ghost stays_same = { λ x. (refl, refl, later_same x.core.now, λ m h. h) };
 
-    ghost stays_on = { λ x y z a b. (b.0 ∙ a.0, b.1 ∙ a.1, later_on a.2 b.2) };
+    ghost stays_on = { λ x y z a b. (b.0 ∙ a.0, b.1 ∙ a.1, later_on a.2 b.2, λ m h. b.3 m (a.3 m h)) };
 
-    ghost same_config = { λ x y a. a.2.config };
-
-    ghost same_tell = { λ x y a. a.2.tell };
-
-    ghost same_steady = { λ x y a. a.2.steady };
-
-    ghost same_actor = { λ x y a. a.1 };
+    ghost later = { λ x y a. door_later x.core.now y.core.now x.actor y.actor a.1 a.2 a.3 };
 }

@@ -4,6 +4,3 @@
 mod memory;
 
 pub use memory::{MemFrame, MemFrames};
-
-#[cfg(test)]
-mod tests;

@@ -1,8 +1,8 @@
 // Frames in memory.
 ghost use Rattle.std.specs.Prelude.{◌≡◌, ◌↔◌, ◌≤◌, ◌+◌, IfOk, IsTrue, IsErrOf, length, true, replicate};
-ghost use Rattle.cache_outside.specs.Causes.{HasCause};
+ghost use Rattle.cache_outside.specs.Frames.{MakerAfter, IsMadeBy};
 ghost use Rattle.cache_outside.specs.declared.fault.OutError.TheVariants.{Failed};
-ghost use Rattle.cache_frame.specs.Makers.{is_listed};
+ghost use Rattle.cache_frame.specs.Makers.{is_listed, frame_of, maker_of};
 
 use cache_outside::{Frame, FrameFault, FrameMaker, OutError};
 use std::alloc::{AllocError, Global};
@@ -34,17 +34,10 @@ impl MemFrame {
 }
 
 impl Frame for MemFrame {
-    ghost use Rattle.std.specs.Prelude.{true, refl};
+    ghost use Rattle.std.specs.Prelude.{refl};
+    ghost use Rattle.cache_frame.specs.Makers.{frame_of};
 
-    ghost size = { λ f. length f };
-
-    ghost tells = { λ _. true };
-
-    ghost steady = { λ _. true };
-
-    ghost faults = { λ _. 0 };
-
-    ghost bytes = { λ f. f };
+    ghost view = { frame_of };
 
     fn put(&mut self, at: u32, piece: &[u8]) -> Result<(), FrameFault> {
         let start = at as usize;
@@ -72,9 +65,9 @@ pub struct MemFrames {
 }
 
 impl Model for MemFrames {
-    ghost use Rattle.cache_frame.specs.Makers.{MakerView};
+    ghost use Rattle.cache_frame.specs.Makers.{MemMakerView};
 
-    ghost Value = { MakerView };
+    ghost Value = { MemMakerView };
 
     ghost view = { λ m. record { fails = m.fails.items; faults = m.faults } };
 }
@@ -93,22 +86,16 @@ impl MemFrames {
 }
 
 impl FrameMaker for MemFrames {
-    ghost use Rattle.std.specs.Prelude.{true};
-
     type F = MemFrame;
 
-    ghost faults = { λ m. m.faults };
-
-    ghost tells = { λ _. true };
-
-    ghost steady = { λ _. true };
+    ghost view = { λ m. maker_of m.faults };
 
     /// `Failed` comes exactly for the indexes that the maker was given.
     fn make(&mut self, index: u32, size: u32) -> Result<MemFrame, OutError>
-        ensures size { IfOk result (λ f. length f ≡ size) }
+        ensures frame { IfOk result (λ f. IsMadeBy (maker_of self.old.faults) size (frame_of f)) }
         ensures listed { IsErrOf result Failed ↔ IsTrue (is_listed index self.old.fails) }
-        ensures cause { HasCause self.old.faults self.new.faults result }
-        ensures same { self.new.fails ≡ self.old.fails }
+        ensures maker { MakerAfter (maker_of self.old.faults) (maker_of self.new.faults) result }
+        ensures fails { self.new.fails ≡ self.old.fails }
     {
         if self.fails.contains(&index) {
             self.faults = self.faults.saturating_add(1);

@@ -1,7 +1,10 @@
 pub mod Causes
 pub mod Listing
 pub mod Nothing
+pub mod Sources
 pub mod Sinks
+pub mod Frames
+pub mod Texts
+pub mod Clocks
 pub mod MemSinks
 pub mod MemSources
-pub mod Frames

@@ -1,5 +1,5 @@
--- An archive: a list of names with their bytes, its manifests, and what a source of it has given.
-use Rattle.std.specs.Prelude.{ℕ, zero, suc, ◌+◌, ◌≤◌, ◌<◌, ◌∷◌, [], ◌++◌, ◌&&◌, List, Bool, true, not, Option, Some, None, length, nat_eq, codes, Result, Ok, Err, filter}
+-- An archive: a list of names with their bytes, and its manifests.
+use Rattle.std.specs.Prelude.{ℕ, zero, suc, ◌+◌, ◌≤◌, ◌<◌, ◌∷◌, [], ◌&&◌, List, Bool, true, not, Option, length, nat_eq, codes, filter}
 use Rattle.std.specs.List.{starts_with, position_from, list_any}
 use Rattle.std.specs.Str.{bytes_eq}
 
@@ -50,10 +50,3 @@ blob_size blobs k = length (blob_bytes blobs k)
 pub record IsWithin (blobs : Listing) (blob at len : ℕ) : Type 0 where
   pub blob_below : blob < length blobs
   pub range : at + len ≤ blob_size blobs blob
-
--- what a read adds to the list of what was taken: (blob, place, count) where it gave a byte, else nothing
-abbrev pub taken_after : {E : Type 0} → Option (List (ℕ × ℕ × ℕ)) → ℕ → ℕ → Result ℕ E → Option (List (ℕ × ℕ × ℕ))
-taken_after None blob at result = None
-taken_after (Some list) blob at (Ok zero) = Some list
-taken_after (Some list) blob at (Ok (suc n)) = Some (list ++ (blob, at, suc n) ∷ [])
-taken_after (Some list) blob at (Err e) = Some list

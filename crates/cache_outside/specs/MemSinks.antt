@@ -1,9 +1,7 @@
--- What a sink in memory shows: what was written, and how often it failed.
-use Rattle.std.specs.Prelude.{ℕ, List}
+-- What clauses see of a sink in memory.
+use Rattle.std.specs.Prelude.{Some}
+use Rattle.cache_outside.specs.Sinks.{SinkView}
 use Rattle.cache_outside.specs.declared.mem_sink.MemSink.{MemSink}
 
-abbrev pub sink_bytes : MemSink → List ℕ
-sink_bytes s = s.bytes.items
-
-abbrev pub sink_faults : MemSink → ℕ
-sink_faults s = s.faults
+abbrev pub sink_view : MemSink → SinkView
+sink_view s = record { faults = s.faults; written = Some s.bytes.items }

@@ -158,11 +158,7 @@ fn read_at<F: Read + Seek>(file: &mut F, at: u64, out: &mut [u8]) -> io::Result<
 impl<Rt: Files + AllocGlobal + Clone + Drop> BlobSource<Untold> for FolderSource<Rt> {
     ghost use Rattle.std.specs.Prelude.{None};
 
-    ghost faults = { λ s. s.faults };
-
-    ghost taken = { λ _. None };
-
-    ghost which = { λ _. 0 };
+    ghost view = { λ s. record { identity = 0; faults = s.faults; reads = None } };
 
     fn find(&mut self, name: &str) -> Result<Option<u32>, OutError> {
         match place_among(&self.names, name) {

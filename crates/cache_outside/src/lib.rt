@@ -22,8 +22,3 @@ pub use memory::MemSource;
 pub use sink::Sink;
 pub use source::{Archive, BlobSource};
 pub use std_sink::StdSink;
-
-#[cfg(test)]
-mod strange_files;
-#[cfg(test)]
-mod tests;

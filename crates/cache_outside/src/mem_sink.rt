@@ -1,5 +1,5 @@
 // A sink in memory.
-ghost use Rattle.std.specs.Prelude.{◌≡◌, ◌<◌, []};
+ghost use Rattle.std.specs.Prelude.{◌≡◌, ◌<◌, Some, []};
 
 use crate::fault::fail;
 use crate::{OutError, Sink};
@@ -18,13 +18,12 @@ pub struct MemSink {
 }
 
 impl MemSink {
-    ghost use Rattle.cache_outside.specs.MemSinks.{sink_bytes, sink_faults};
+    ghost use Rattle.cache_outside.specs.MemSinks.{sink_view};
 
     /// A sink to which nothing is written yet; takes no memory.
     pub fn new(alloc: Global, step: usize, fails: Vec<u64>) -> MemSink
         requires { 0 < step }
-        ensures written { sink_bytes result ≡ [] }
-        ensures faults { sink_faults result ≡ 0 }
+        ensures sink { sink_view result ≡ record { faults = 0; written = Some [] } }
     {
         MemSink {
             step,
@@ -37,18 +36,16 @@ impl MemSink {
 
     /// What was written, in order.
     pub fn written(&self) -> &[u8]
-        ensures { result.now ≡ sink_bytes self.now }
+        ensures { (sink_view self.now).written ≡ Some result.now }
     {
         &self.bytes
     }
 }
 
 impl Sink for MemSink {
-    ghost use Rattle.std.specs.Prelude.{Some};
+    ghost use Rattle.cache_outside.specs.MemSinks.{sink_view};
 
-    ghost faults = { λ s. s.faults };
-
-    ghost written = { λ s. Some s.bytes.items };
+    ghost view = { sink_view };
 
     fn write(&mut self, piece: &[u8]) -> Result<usize, OutError> {
         let count = piece.len().min(self.step);

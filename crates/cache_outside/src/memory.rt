@@ -1,5 +1,5 @@
 // A source in memory.
-ghost use Rattle.std.specs.Prelude.{◌≡◌, ◌<◌, ◌≤◌, IsTrue, [], length, take, drop};
+ghost use Rattle.std.specs.Prelude.{◌≡◌, ◌<◌, ◌≤◌, IsTrue, Some, [], length, take, drop};
 ghost use Rattle.cache_outside.specs.Listing.{manifests};
 
 use crate::calls::Calls;
@@ -10,24 +10,24 @@ use std::alloc::Global;
 use std::marker::PhantomData;
 
 /// A source of the blobs of a list, in memory. It gives at most `step` bytes a read, fails at the calls listed,
-/// counted from 1 by kind, and keeps what was taken.
+/// counted from 1 by kind, and keeps its reads.
 #[derive(Drop)]
 pub struct MemSource<A: Archive> {
     blobs: Blobs,
     step: usize,
     calls: Calls,
     number: u64,
-    taken: Vec<(u32, u64, u64)>,
+    reads: Vec<(u32, u64, u64)>,
     archive: PhantomData<A>,
     pub ghost step_is_some: { 0 < step },
     pub ghost few_manifests: { length (manifests blobs) ≤ 65536 },
-    pub ghost told: { IsTrue A.tells → blobs ≡ A.blobs },
+    pub ghost whole: { IsTrue A.tells → blobs ≡ A.blobs },
 }
 
 impl<A: Archive> MemSource<A> {
-    ghost use Rattle.cache_outside.specs.MemSources.{taken_list, fault_count, own_number};
+    ghost use Rattle.cache_outside.specs.MemSources.{source_view};
 
-    /// A source of these blobs, of which nothing is taken yet; takes no memory. At most 65,536 of the blobs are
+    /// A source of these blobs that was not read yet; takes no memory. At most 65,536 of the blobs are
     /// manifests (`manifests_in`), and where the archive tells they are the archive's.
     pub fn new(
         alloc: Global,
@@ -37,26 +37,22 @@ impl<A: Archive> MemSource<A> {
     ) -> MemSource<A>
         requires step { 0 < step }
         requires few_manifests { length (manifests blobs) ≤ 65536 }
-        requires told { IsTrue A.tells → blobs ≡ A.blobs }
-        ensures taken { taken_list result ≡ [] }
-        ensures faults { fault_count result ≡ 0 }
-        ensures number { own_number result ≡ 0 }
+        requires whole { IsTrue A.tells → blobs ≡ A.blobs }
+        ensures source { source_view result ≡ record { identity = 0; faults = 0; reads = Some [] } }
     {
         MemSource {
             blobs,
             step,
             calls: Calls::new(fails),
             number: 0,
-            taken: Vec::new(alloc),
+            reads: Vec::new(alloc),
             archive: PhantomData,
         }
     }
 
     /// The same source under a number of its own, by which callers tell it from others; without it the number is 0.
     pub fn with_number(mut self, number: u64) -> MemSource<A>
-        ensures number { own_number result ≡ number }
-        ensures taken { taken_list result ≡ taken_list self }
-        ensures faults { fault_count result ≡ fault_count self }
+        ensures source { source_view result ≡ record (source_view self) { identity = number } }
     {
         self.number = number;
         self
@@ -64,9 +60,9 @@ impl<A: Archive> MemSource<A> {
 
     /// The reads so far that gave a byte, in order: blob, place and count.
     pub fn reads(&self) -> &[(u32, u64, u64)]
-        ensures { result.now ≡ taken_list self.now }
+        ensures { (source_view self.now).reads ≡ Some result.now }
     {
-        &self.taken
+        &self.reads
     }
 }
 
@@ -84,14 +80,9 @@ fn copy_some(bytes: &[u8], at: usize, most: usize, out: &mut [u8]) -> usize
 }
 
 impl<A: Archive> BlobSource<A> for MemSource<A> {
-    ghost use Rattle.std.specs.Prelude.{Some};
-    ghost use Rattle.cache_outside.specs.MemSources.{taken_list};
+    ghost use Rattle.cache_outside.specs.MemSources.{source_view};
 
-    ghost faults = { λ s. s.calls.faults };
-
-    ghost taken = { λ s. Some (taken_list s) };
-
-    ghost which = { λ s. s.number };
+    ghost view = { source_view };
 
     fn find(&mut self, name: &str) -> Result<Option<u32>, OutError> {
         self.calls.begin(SourceCall::Find)?;
@@ -123,7 +114,7 @@ impl<A: Archive> BlobSource<A> for MemSource<A> {
     }
 
     fn read(&mut self, blob: u32, at: u64, out: &mut [u8]) -> Result<usize, OutError> {
-        self.taken.reserve(1)?;
+        self.reads.reserve(1)?;
         self.calls.begin(SourceCall::Read)?;
         if out.is_empty() {
             return Ok(0);
@@ -137,7 +128,7 @@ impl<A: Archive> BlobSource<A> for MemSource<A> {
             return Err(self.calls.fail());
         }
         let count = copy_some(bytes, at as usize, self.step, out);
-        self.taken.push((blob, at, count as u64))?;
+        self.reads.push((blob, at, count as u64))?;
         Ok(count)
     }
 }

@@ -19,9 +19,7 @@ impl<Rt: Print + Drop> StdSink<Rt> {
 impl<Rt: Print + Drop> Sink for StdSink<Rt> {
     ghost use Rattle.std.specs.Prelude.{None};
 
-    ghost faults = { λ s. s.faults };
-
-    ghost written = { λ _. None };
+    ghost view = { λ s. record { faults = s.faults; written = None } };
 
     fn write(&mut self, piece: &[u8]) -> Result<usize, OutError> {
         if piece.is_empty() {

@@ -7,3 +7,4 @@ pub mod Lowered
 pub mod Candidates
 pub mod Clears
 pub mod Mapped
+pub mod Leaves

@@ -3,3 +3,4 @@ pub mod Ageing
 pub mod Kept
 pub mod Steps
 pub mod Fields
+pub mod Laws

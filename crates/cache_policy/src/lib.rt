@@ -3,6 +3,7 @@
 #![tactic(auto)]
 
 mod index;
+mod laws;
 mod lower;
 mod order;
 mod policy;
@@ -10,6 +11,7 @@ mod tally;
 #[cfg(test)]
 mod tests;
 
+pub use laws::{candidates_left, free_region_leaves};
 pub use policy::Policy;
 pub use region_ranges::Config;
 pub use tally::Tally4;

@@ -1,6 +1,6 @@
 ghost use Rattle.std.specs.Prelude.{◌≡◌, ◌≢◌, ◌<◌, ◌≤◌, ◌+◌, ◌==◌, ◌++◌, ℕ, IfOk, IfSome, IfNone, IsSome, Some, None, length, slice_get, slice_index, if◌then◌else◌};
 ghost use Rattle.region_ranges.specs.Keys.{IsKey, IsConfig, tag_of};
-ghost use Rattle.freq_lists.specs.Lists.{head, times_in};
+ghost use Rattle.freq_lists.specs.Lists.{head, times, times_in};
 ghost use Rattle.cache_policy.specs.Policy.{PolicyView, new_policy, find, tag_at, mapped_len, is_of, regions_from, unmap, leave, settle, clear};
 ghost use Rattle.cache_policy.specs.Ageing.{map_front, touch, decay, candidates, next_candidate};
 ghost use Rattle.cache_policy.specs.Kept.{IsGood};
@@ -84,6 +84,7 @@ impl Policy {
         requires { IsSome (tag_at self.old region) }
         ensures policy { self.new ≡ touch region now self.old }
         ensures tags { (j : ℕ) → tag_at self.new j ≡ tag_at self.old j }
+        ensures count { length self.new.tags ≡ length self.old.tags }
     {
         let Some(frequency) = self.lists.list_of(region) else {
             return;
@@ -128,6 +129,7 @@ impl Policy {
         requires new { find (tag_of key) self.old ≡ None }
         ensures policy { self.new ≡ map_front region (tag_of key) now self.old }
         ensures tags { (j : ℕ) → tag_at self.new j ≡ (if j == region then Some (tag_of key) else tag_at self.old j) }
+        ensures count { length self.new.tags ≡ length self.old.tags }
     {
         self.free.remove(0);
         self.lists.push_back(0, region);
@@ -140,6 +142,7 @@ impl Policy {
         requires { IsSome (tag_at self.old region) }
         ensures policy { self.new ≡ unmap region self.old }
         ensures tags { (j : ℕ) → tag_at self.new j ≡ (if j == region then None else tag_at self.old j) }
+        ensures count { length self.new.tags ≡ length self.old.tags }
     {
         self.lists.unlink(region);
         self.tags[region as usize] = None;
@@ -154,6 +157,7 @@ impl Policy {
         requires { IsSome (tag_at self.old region) }
         ensures policy { self.new ≡ leave region self.old }
         ensures tags { (j : ℕ) → tag_at self.new j ≡ (if j == region then None else tag_at self.old j) }
+        ensures count { length self.new.tags ≡ length self.old.tags }
     {
         self.lists.unlink(region);
         self.tags[region as usize] = None;
@@ -167,6 +171,7 @@ impl Policy {
         requires { 0 < times_in region self.old.leaving }
         ensures policy { self.new ≡ settle region self.old }
         ensures tags { (j : ℕ) → tag_at self.new j ≡ tag_at self.old j }
+        ensures count { length self.new.tags ≡ length self.old.tags }
     {
         self.leaving.retain(|entry| *entry != region);
         let Ok(()) = self.free.push(region) else {
@@ -179,6 +184,7 @@ impl Policy {
     pub fn decay(&mut self, now: u64)
         ensures policy { self.new ≡ decay now self.old }
         ensures tags { (j : ℕ) → tag_at self.new j ≡ tag_at self.old j }
+        ensures count { length self.new.tags ≡ length self.old.tags }
     {
         self.demotions = lower_all(
             &mut self.lists,
@@ -195,6 +201,7 @@ impl Policy {
         ensures policy { self.new ≡ clear manifest self.old }
         ensures tags { (j : ℕ) → tag_at self.new j ≡ (if is_of manifest (tag_at self.old j) then None else tag_at self.old j) }
         ensures leaving { self.new.leaving ≡ self.old.leaving ++ regions_from 0 (is_of manifest) self.old.tags }
+        ensures count { length self.new.tags ≡ length self.old.tags }
     {
         let regions = self.tags.len() as u32;
         for region in 0..regions {
@@ -251,6 +258,7 @@ impl Policy {
     pub fn lesson(&self)
         ensures good { IsGood self.now }
         ensures candidates { (r : ℕ) → 0 < times_in r (candidates self.now) → IsSome (tag_at self.now r) }
+        ensures listed { (r : ℕ) → times_in r (candidates self.now) ≡ times r self.now.lists }
     {
         let _ = &self.lists;
     }

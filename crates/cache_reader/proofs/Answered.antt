@@ -1,9 +1,10 @@
 -- Answers of reads, by their cases.
-use Rattle.std.proofs.Common.{arith, ◌≡◌, ◌≢◌, ◌≤◌, ℕ, List, Bool, true, false, Option, Some, None, Result, Ok, Err, length, refl, ap}
+use Rattle.std.proofs.Common.{arith, ◌≡◌, ◌≢◌, ◌≤◌, ℕ, List, Bool, true, false, Option, Some, None, Result, Ok, Err, length, refl, ap, ◌∙◌}
 use Rattle.std.specs.Prelude.{OnOk, IsErr, IsErrOf}
 use Rattle.directory_input.specs.declared.files.BytesError.{BytesError}
 use Rattle.directory_input.specs.declared.files.BytesError.TheVariants.{Fault, Gone, NoMemory}
 use Rattle.directory_input.specs.Causes.{Rose, IsCaused, refusal}
+use Rattle.directory_input.specs.Files.{FilesView}
 use Rattle.blob_parts.specs.Content.{slice_of}
 use Rattle.blob_parts.specs.Takes.{Took, Takes}
 use Rattle.cache_reader.specs.Going.{is_memory}
@@ -16,25 +17,25 @@ refused_by T Fault P f g h = f refl
 refused_by T (Gone m) P f g h = absurd (g m refl)
 refused_by T NoMemory P f g h = absurd (cc)
 
-pub caused_by : (e : BytesError) (before now mount : ℕ) (gone : Bool) → (e ≡ Fault → Rose before now) → ((m : ℕ) → e ≢ Gone m) → IsCaused before now mount gone (Some e)
-caused_by Fault before now mount gone f g = f refl
-caused_by (Gone m) before now mount gone f g = absurd (g m refl)
-caused_by NoMemory before now mount gone f g = tt
+pub caused_by : (e : BytesError) (before now : FilesView) → (e ≡ Fault → Rose before.faults now.faults) → ((m : ℕ) → e ≢ Gone m) → IsCaused before now (Some e)
+caused_by Fault before now f g = f refl
+caused_by (Gone m) before now f g = absurd (g m refl)
+caused_by NoMemory before now f g = tt
 
-pub caused_of : {T : Type 0} (r : Result T BytesError) (before now mount : ℕ) (gone : Bool) → (IsErrOf r Fault → Rose before now) → ((m : ℕ) → r ≢ Err (Gone m)) → IsCaused before now mount gone (refusal r)
-caused_of (Ok x) before now mount gone f g = tt
-caused_of (Err e) before now mount gone f g = caused_by e before now mount gone (λ same. f (ap Err same)) (λ m same. g m (ap Err same))
+pub caused_of : {T : Type 0} (r : Result T BytesError) (before now : FilesView) → (IsErrOf r Fault → Rose before.faults now.faults) → ((m : ℕ) → r ≢ Err (Gone m)) → IsCaused before now (refusal r)
+caused_of (Ok x) before now f g = tt
+caused_of (Err e) before now f g = caused_by e before now (λ same. f (ap Err same)) (λ m same. g m (ap Err same))
 
 pub refused_of : {T : Type 0} (r : Result T BytesError) (P : Type 0) → (IsErrOf r Fault → P) → ((m : ℕ) → r ≢ Err (Gone m)) → is_answered r ≡ false → is_memory r ≡ false → P
 refused_of (Ok x) P f g a l = absurd (cc)
 refused_of {T = T} (Err e) P f g a l = refused_by T e P (λ same. f (ap Err same)) (λ m same. g m (ap Err same)) l
 
 -- the count stood higher before
-pub caused_later : (r : Option BytesError) (a b n mount : ℕ) (gone : Bool) → a ≤ b → IsCaused b n mount gone r → IsCaused a n mount gone r
-caused_later None a b n mount gone le h = tt
-caused_later (Some Fault) a b n mount gone le h = omega (arith, le, h)
-caused_later (Some (Gone m)) a b n mount gone le h = h
-caused_later (Some NoMemory) a b n mount gone le h = tt
+pub caused_later : (r : Option BytesError) (a b n : FilesView) → a.faults ≤ b.faults → b.mount ≡ a.mount → IsCaused b n r → IsCaused a n r
+caused_later None a b n le same h = tt
+caused_later (Some Fault) a b n le same h = omega (arith, le, h)
+caused_later (Some (Gone m)) a b n le same h = (h.0 ∙ same, h.1)
+caused_later (Some NoMemory) a b n le same h = tt
 
 pub on_answered : {T E : Type 0} (r : Result T E) (P : Type 0) → OnOk r P → is_answered r ≡ true → P
 on_answered (Ok x) P h e = h

@@ -9,11 +9,11 @@ use Rattle.cache_door.specs.declared.work.Work.{Work}
 use Rattle.cache_reader.specs.declared.report.Report.{Report}
 use Rattle.cache_reader.specs.Reports.{joined, no_bytes, copied_bytes, fetched_bytes, direct_bytes, Grew, Counted}
 use Rattle.cache_reader.specs.Bounds.{Bounded, Worked}
-use Rattle.cache_reader.specs.Parts.{Line}
-use Rattle.cache_reader.specs.Going.{Moment, moment, Goes}
+use Rattle.cache_reader.specs.Parts.{ReadSetting}
+use Rattle.cache_reader.specs.Going.{Moment, Goes}
 use Rattle.cache_door.specs.Machine.{State}
 use Rattle.std.proofs.Math.Nat.{le_refl}
-use Rattle.cache_reader.specs.Filling.{Partly, Whole, PartGoes}
+use Rattle.cache_reader.specs.Filling.{Partly, Whole, PartGoes, given}
 use Rattle.cache_reader.proofs.Joins.{worked_none, goes_more, goes_none, counted_more, counted_none, took_none, took_both, bounded_more, rose_then}
 use Rattle.std.proofs.lemmas.List.{drop-drop, take-take, drop-take}
 use Rattle.blob_parts.specs.Content.{slice_of}
@@ -36,136 +36,133 @@ same_bound range old new n a grew s t =
     (grew.most, omega (arith, grew.whole s, more))
 
 -- nothing was done, and refused
-pub part_none : (c : Line) (size : ℕ) (lacked : Bool) (r : Report) (x y : Moment) → Goes c no_bytes x y → y.taken ≡ x.taken → PartGoes c size false lacked r r x y
-part_none c size lacked r x y goes same = record {
+pub part_none : (c : ReadSetting) (out_of_memory : Bool) (r : Report) (x y : Moment) → Goes c no_bytes x y → y.source.reads ≡ x.source.reads → PartGoes c 0 out_of_memory r r x y
+part_none c out_of_memory r x y goes same = record {
   counts = no_bytes;
   report = counted_none r;
-  most = omega arith;
-  all = λ h. absurd (cc);
+  all = refl;
   goes = goes;
-  takes = λ told. record { places = []; took = subst (λ t. Took x.taken t []) (sym same) (took_none x.taken); bound = λ a b. same_bound c.config.range x.work y.work 0 goes.work.turned goes.work.stored };
+  takes = λ told. record { places = []; took = subst (λ t. Took x.source.reads t []) (sym same) (took_none x.source.reads); bound = λ a b. same_bound c.config.range x.door.work y.door.work 0 goes.work.turned goes.work.stored };
 }
 
 -- the part was copied
-pub part_copied : (c : Line) (size gap : ℕ) (lacked : Bool) (q r s : Report) (x y : Moment) → Whole c gap q r x y → Counted r s (copied_bytes size) → PartGoes c size true lacked q s x y
-part_copied c size gap lacked q r s x y h copied = record {
+pub part_copied : (c : ReadSetting) (size gap : ℕ) (out_of_memory : Bool) (q r s : Report) (x y : Moment) → Whole c gap q r x y → Counted r s (copied_bytes size) → PartGoes c size out_of_memory q s x y
+part_copied c size gap out_of_memory q r s x y h copied = record {
   counts = joined (fetched_bytes gap) (copied_bytes size);
   report = counted_more q r s (fetched_bytes gap) (copied_bytes size) h.report copied;
-  most = omega arith;
-  all = λ e. omega arith;
+  all = omega arith;
   goes = record {
+    identity = h.goes.identity;
     faults = h.goes.faults;
     frame_faults = h.goes.frame_faults;
     seen = h.goes.seen;
     unmounted = h.goes.unmounted;
-    work = record { stored = subst (λ n. Grew x.work.stored y.work.stored n) (omega arith) h.goes.work.stored; turned = h.goes.work.turned; direct = λ some. absurd (omega (arith, some)); decays = h.goes.work.decays; clears = h.goes.work.clears };
+    work = record { stored = subst (λ n. Grew x.door.work.stored y.door.work.stored n) (omega arith) h.goes.work.stored; turned = h.goes.work.turned; direct = λ some. absurd (omega (arith, some)); decays = h.goes.work.decays; clears = h.goes.work.clears };
   };
   takes = λ told. let took = h.took told in record {
     places = took.0;
     took = took.1;
-    bound = λ a b. subst (λ n. Bounded c.config.range x.work y.work n) (sym took.2) (same_bound c.config.range x.work y.work gap h.goes.work.turned h.goes.work.stored);
+    bound = λ a b. subst (λ n. Bounded c.config.range x.door.work y.door.work n) (sym took.2) (same_bound c.config.range x.door.work y.door.work gap h.goes.work.turned h.goes.work.stored);
   };
 }
 
 -- the source refused a piece
-pub part_refused : (c : Line) (size gap : ℕ) (lacked : Bool) (q r : Report) (x y : Moment) → Partly c gap q r x y → (lacked ≡ false → Rose x.faults y.faults) → PartGoes c size false lacked q r x y
-part_refused c size gap lacked q r x y h cause = record {
+pub part_refused : (c : ReadSetting) (gap : ℕ) (out_of_memory : Bool) (q r : Report) (x y : Moment) → Partly c gap q r x y → (out_of_memory ≡ false → Rose x.source.faults y.source.faults) → PartGoes c 0 out_of_memory q r x y
+part_refused c gap out_of_memory q r x y h cause = record {
   counts = fetched_bytes h.count;
   report = h.report;
-  most = omega arith;
-  all = λ e. absurd (cc);
+  all = refl;
   goes = h.goes;
-  takes = λ told. let took = h.took told in record { places = took.0; took = took.1; bound = λ unwanted calm. absurd (calm (cause unwanted)) };
+  takes = λ told. let took = h.took told in record { places = took.0; took = took.1; bound = λ enough calm. absurd (calm (cause enough)) };
 }
 
 -- the door turned the caller away, and the part was read past the cache, or that was refused
-pub part_direct : (c : Line) (size gap range : ℕ) (answered lacked : Bool) (q r s : Report) (x y z : Moment) → gap ≤ c.config.range → size ≤ c.config.range
-    → Partly c gap q r x y → Rose x.work.turned_away y.work.turned_away → z.work ≡ y.work → Goes c no_bytes y z
-    → (answered ≡ true → Counted r s (direct_bytes size)) → (answered ≡ false → s ≡ r) → (answered ≡ false → lacked ≡ false → Rose y.faults z.faults)
-    → (IsTrue c.tells → (ps : List (ℕ × ℕ)) × Took y.taken z.taken ps × (length ps ≤ size)) → PartGoes c size answered lacked q s x z
-part_direct c size gap range true lacked q r s x y z fits short h away same later count un cause took = record {
+pub part_direct : (c : ReadSetting) (size gap range : ℕ) (answered out_of_memory : Bool) (q r s : Report) (x y z : Moment) → gap ≤ c.config.range → size ≤ c.config.range
+    → Partly c gap q r x y → Rose x.door.work.turned_away y.door.work.turned_away → z.door.work ≡ y.door.work → Goes c no_bytes y z
+    → (answered ≡ true → Counted r s (direct_bytes size)) → (answered ≡ false → s ≡ r) → (answered ≡ false → out_of_memory ≡ false → Rose y.source.faults z.source.faults)
+    → (IsTrue c.tells → (ps : List (ℕ × ℕ)) × Took y.source.reads z.source.reads ps × (length ps ≤ size)) → PartGoes c (given answered size) out_of_memory q s x z
+part_direct c size gap range true out_of_memory q r s x y z fits short h away same later count un cause took = record {
   counts = joined (fetched_bytes h.count) (direct_bytes size);
   report = counted_more q r s (fetched_bytes h.count) (direct_bytes size) h.report (count refl);
-  most = omega arith;
-  all = λ e. omega arith;
+  all = omega arith;
   goes = record {
+    identity = later.identity ∙ h.goes.identity;
     faults = omega (arith, h.goes.faults, later.faults);
     frame_faults = omega (arith, h.goes.frame_faults, later.frame_faults);
     seen = λ m g. later.seen m (h.goes.seen m g);
     unmounted = later.unmounted ∙ h.goes.unmounted;
-    work = subst (λ (w : Work). Worked (joined (fetched_bytes h.count) (direct_bytes size)) x.work w) (sym same) (record { stored = subst (λ n. Grew x.work.stored y.work.stored n) (omega arith) h.goes.work.stored; turned = h.goes.work.turned; direct = λ some. away; decays = h.goes.work.decays; clears = h.goes.work.clears });
+    work = subst (λ (w : Work). Worked (joined (fetched_bytes h.count) (direct_bytes size)) x.door.work w) (sym same) (record { stored = subst (λ n. Grew x.door.work.stored y.door.work.stored n) (omega arith) h.goes.work.stored; turned = h.goes.work.turned; direct = λ some. away; decays = h.goes.work.decays; clears = h.goes.work.clears });
   };
   takes = λ told.
       let first = h.took told in
       let more = took told in
       record {
         places = first.0 ++ more.0;
-        took = took_both x.taken y.taken z.taken first.0 more.0 first.1 more.1;
-        bound = λ unwanted calm. rw (length-append first.0 more.0) (subst (λ (w : Work). Bounded c.config.range x.work w (length first.0 + length more.0)) (sym same)
-            (away_bound c.config.range x.work y.work (length first.0) h.count (length more.0) away h.goes.work.stored first.2 (omega (arith, first.3, fits)) (omega (arith, more.2, short))));
+        took = took_both x.source.reads y.source.reads z.source.reads first.0 more.0 first.1 more.1;
+        bound = λ enough calm. rw (length-append first.0 more.0) (subst (λ (w : Work). Bounded c.config.range x.door.work w (length first.0 + length more.0)) (sym same)
+            (away_bound c.config.range x.door.work y.door.work (length first.0) h.count (length more.0) away h.goes.work.stored first.2 (omega (arith, first.3, fits)) (omega (arith, more.2, short))));
       };
 }
-part_direct c size gap range false lacked q r s x y z fits short h away same later count un cause took = record {
+part_direct c size gap range false out_of_memory q r s x y z fits short h away same later count un cause took = record {
   counts = fetched_bytes h.count;
   report = subst (λ (o : Report). Counted q o (fetched_bytes h.count)) (sym (un refl)) h.report;
-  most = omega arith;
-  all = λ e. absurd (cc);
+  all = refl;
   goes = record {
+    identity = later.identity ∙ h.goes.identity;
     faults = omega (arith, h.goes.faults, later.faults);
     frame_faults = omega (arith, h.goes.frame_faults, later.frame_faults);
     seen = λ m g. later.seen m (h.goes.seen m g);
     unmounted = later.unmounted ∙ h.goes.unmounted;
-    work = subst (λ (w : Work). Worked (fetched_bytes h.count) x.work w) (sym same) h.goes.work;
+    work = subst (λ (w : Work). Worked (fetched_bytes h.count) x.door.work w) (sym same) h.goes.work;
   };
   takes = λ told.
       let first = h.took told in
       let more = took told in
-      record { places = first.0 ++ more.0; took = took_both x.taken y.taken z.taken first.0 more.0 first.1 more.1; bound = λ unwanted calm. absurd (calm (omega (arith, cause refl unwanted, h.goes.faults))) };
+      record { places = first.0 ++ more.0; took = took_both x.source.reads y.source.reads z.source.reads first.0 more.0 first.1 more.1; bound = λ enough calm. absurd (calm (omega (arith, cause refl enough, h.goes.faults))) };
 }
 
 -- nothing is fetched yet
-pub partly_none : (c : Line) (r : Report) (x : Moment) → Partly c 0 r r x x
-partly_none c r x = record { count = 0; most = omega arith; goes = goes_none c x; report = counted_none r; took = λ told. ([], took_none x.taken, omega arith, omega arith) }
+pub partly_none : (c : ReadSetting) (r : Report) (x : Moment) → Partly c 0 r r x x
+partly_none c r x = record { count = 0; most = omega arith; goes = goes_none c x; report = counted_none r; took = λ told. ([], took_none x.source.reads, omega arith, omega arith) }
 
-pub whole_none : (c : Line) (r : Report) (x : Moment) → Whole c 0 r r x x
-whole_none c r x = record { goes = goes_none c x; report = counted_none r; took = λ told. ([], took_none x.taken, refl) }
+pub whole_none : (c : ReadSetting) (r : Report) (x : Moment) → Whole c 0 r r x x
+whole_none c r x = record { goes = goes_none c x; report = counted_none r; took = λ told. ([], took_none x.source.reads, refl) }
 
-goes_then : (c : Line) (n : ℕ) (x y z : Moment) → Goes c (fetched_bytes n) x y → Goes c no_bytes y z → Goes c (fetched_bytes n) x z
+goes_then : (c : ReadSetting) (n : ℕ) (x y z : Moment) → Goes c (fetched_bytes n) x y → Goes c no_bytes y z → Goes c (fetched_bytes n) x z
 goes_then c n x y z h k = subst (λ m. Goes c (fetched_bytes m) x z) (omega arith) (goes_more c (fetched_bytes n) no_bytes x y z h k)
 
 -- and then the door did no work
-pub partly_then : (c : Line) (gap : ℕ) (q r : Report) (x y z : Moment) → Partly c gap q r x y → Goes c no_bytes y z → z.taken ≡ y.taken → Partly c gap q r x z
+pub partly_then : (c : ReadSetting) (gap : ℕ) (q r : Report) (x y z : Moment) → Partly c gap q r x y → Goes c no_bytes y z → z.source.reads ≡ y.source.reads → Partly c gap q r x z
 partly_then c gap q r x y z h k same = record {
   count = h.count;
   most = h.most;
   goes = goes_then c h.count x y z h.goes k;
   report = h.report;
-  took = λ told. let t = h.took told in (t.0, subst (λ u. Took x.taken u t.0) (sym same) t.1, t.2, t.3);
+  took = λ told. let t = h.took told in (t.0, subst (λ u. Took x.source.reads u t.0) (sym same) t.1, t.2, t.3);
 }
 
-pub whole_then : (c : Line) (gap : ℕ) (q r : Report) (x y z : Moment) → Whole c gap q r x y → Goes c no_bytes y z → z.taken ≡ y.taken → Whole c gap q r x z
+pub whole_then : (c : ReadSetting) (gap : ℕ) (q r : Report) (x y z : Moment) → Whole c gap q r x y → Goes c no_bytes y z → z.source.reads ≡ y.source.reads → Whole c gap q r x z
 whole_then c gap q r x y z h k same = record {
   goes = goes_then c gap x y z h.goes k;
   report = h.report;
-  took = λ told. let t = h.took told in (t.0, subst (λ u. Took x.taken u t.0) (sym same) t.1, t.2);
+  took = λ told. let t = h.took told in (t.0, subst (λ u. Took x.source.reads u t.0) (sym same) t.1, t.2);
 }
 
 none_joined : (m : Report) → joined no_bytes m ≡ m
 none_joined m = rw (zero-add m.hit, zero-add m.fetched, zero-add m.direct)
 
 -- the same, behind a call of the door that was no work of a reader
-pub part_after : (c : Line) (size : ℕ) (answered lacked : Bool) (q r : Report) (x y z : Moment) → Goes c no_bytes x y → y.taken ≡ x.taken → PartGoes c size answered lacked q r y z → PartGoes c size answered lacked q r x z
-part_after c size answered lacked q r x y z first same h = record {
+pub part_after : (c : ReadSetting) (size : ℕ) (out_of_memory : Bool) (q r : Report) (x y z : Moment) → Goes c no_bytes x y → y.source.reads ≡ x.source.reads → PartGoes c size out_of_memory q r y z → PartGoes c size out_of_memory q r x z
+part_after c size out_of_memory q r x y z first same h = record {
   counts = h.counts;
   report = h.report;
-  most = h.most;
   all = h.all;
   goes = subst (λ (m : Report). Goes c m x z) (none_joined h.counts) (goes_more c no_bytes h.counts x y z first h.goes);
   takes = λ told. let t = h.takes told in record {
     places = t.places;
-    took = subst (λ u. Took u z.taken t.places) same t.took;
-    bound = λ unwanted calm. subst (λ n. Bounded c.config.range x.work z.work n) (zero-add (length t.places)) (bounded_more c.config.range x.work y.work z.work 0 (length t.places) h.goes.work.stored.later h.goes.work.turned
-        (same_bound c.config.range x.work y.work 0 first.work.turned first.work.stored) (t.bound unwanted (λ r. calm (rose_then x.faults y.faults z.faults first.faults r))));
+    took = subst (λ u. Took u z.source.reads t.places) same t.took;
+    bound = λ enough calm. subst (λ n. Bounded c.config.range x.door.work z.door.work n) (zero-add (length t.places)) (bounded_more c.config.range x.door.work y.door.work z.door.work 0 (length t.places) h.goes.work.stored.later h.goes.work.turned
+        (same_bound c.config.range x.door.work y.door.work 0 first.work.turned first.work.stored) (t.bound enough (λ r. calm (rose_then x.source.faults y.source.faults z.source.faults first.faults r))));
   };
 }
 
@@ -185,8 +182,8 @@ worked_away a b h =
 pub rose_away : (a b : Work) → Works a b turned_away_once → Rose a.turned_away b.turned_away
 rose_away a b h = let v : b.turned_away ≡ min (a.turned_away + 1) 18446744073709551615 = h.turned_away.value in omega (arith, v)
 
-pub partly_of : (c : Line) (r : Report) (x y : Moment) → Goes c no_bytes x y → y.taken ≡ x.taken → Partly c 0 r r x y
-partly_of c r x y goes same = record { count = 0; most = omega arith; goes = goes; report = counted_none r; took = λ told. ([], subst (λ t. Took x.taken t []) (sym same) (took_none x.taken), omega arith, omega arith) }
+pub partly_of : (c : ReadSetting) (r : Report) (x y : Moment) → Goes c no_bytes x y → y.source.reads ≡ x.source.reads → Partly c 0 r r x y
+partly_of c r x y goes same = record { count = 0; most = omega arith; goes = goes; report = counted_none r; took = λ told. ([], subst (λ t. Took x.source.reads t []) (sym same) (took_none x.source.reads), omega arith, omega arith) }
 
 -- some bytes of some bytes
 pub slice_slice : {X : Type 0} (xs : List X) (at size from n : ℕ) → from + n ≤ size → slice_of (slice_of xs at size) from n ≡ slice_of xs (at + from) n
@@ -203,7 +200,3 @@ pub region_slice : (files : ℕ → ℕ → List ℕ) (m f own_m own_f part size
 region_slice files m f own_m own_f part size start end base at n a b d e g less most =
     let place : part * size + start ≡ at = omega (arith, d, e) in
     slice_slice (files own_m own_f) (part * size) size start (end - start) (omega (arith, less, most)) ∙ cc (place, a, b, g)
-
--- a call of the source alone
-pub source_step : (c : Line) (a b frames : ℕ) (t u : Option (List (ℕ × ℕ × ℕ))) (seen unmounted : ℕ → Bool) (w : Work) (s : Option State) → a ≤ b → Goes c no_bytes (moment a t frames seen unmounted w s) (moment b u frames seen unmounted w s)
-source_step c a b frames t u seen unmounted w s le = record { faults = le; frame_faults = le_refl frames; seen = λ m h. h; unmounted = refl; work = worked_none w }

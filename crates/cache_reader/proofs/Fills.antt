@@ -11,7 +11,7 @@ use Rattle.blob_parts.specs.Content.{content, content_places, bytes_of, places_o
 use Rattle.blob_parts.specs.Takes.{Took}
 use Rattle.cache_reader.specs.declared.report.Report.{Report}
 use Rattle.cache_reader.specs.Reports.{no_bytes, fetched_bytes, Counted}
-use Rattle.cache_reader.specs.Parts.{Line}
+use Rattle.cache_reader.specs.Parts.{ReadSetting}
 use Rattle.cache_reader.specs.Parts as parts
 use Rattle.cache_reader.specs.Going.{Moment, Goes}
 use Rattle.cache_reader.specs.Filling.{Filling, Partly, Whole}
@@ -39,38 +39,38 @@ slice_length xs at n h = length-take n (drop at xs) ∙ ap (min n) (length-drop 
 pub slice_joined : {X : Type 0} (xs : List X) (at m n : ℕ) → slice_of xs at m ++ slice_of xs (at + m) n ≡ slice_of xs at (m + n)
 slice_joined xs at m n = sym (take-add m n (drop at xs) ∙ ap (λ ys. take m (drop at xs) ++ take n ys) (drop-drop m at xs))
 
-goes_as : (c : Line) (m n : ℕ) (x y : Moment) → m ≡ n → Goes c (fetched_bytes m) x y → Goes c (fetched_bytes n) x y
+goes_as : (c : ReadSetting) (m n : ℕ) (x y : Moment) → m ≡ n → Goes c (fetched_bytes m) x y → Goes c (fetched_bytes n) x y
 goes_as c m n x y e h = subst (λ k. Goes c (fetched_bytes k) x y) e h
 
 counted_as : (a b : Report) (m n : ℕ) → m ≡ n → Counted a b (fetched_bytes m) → Counted a b (fetched_bytes n)
 counted_as a b m n e h = subst (λ k. Counted a b (fetched_bytes k)) e h
 
-pub filling_none : (c : Line) (file base at : ℕ) (r : Report) (x : Moment) → Filling c file base at at r r x x
+pub filling_none : (c : ReadSetting) (file base at : ℕ) (r : Report) (x : Moment) → Filling c file base at at r r x x
 filling_none c file base at r x = let e : 0 ≡ at - at = omega arith in record {
   goes = goes_as c 0 (at - at) x x e (goes_none c x);
   report = counted_as r r 0 (at - at) e (counted_none r);
-  took = λ told. subst (λ k. Took x.taken x.taken (slice_of (parts.places_of c file) (base + at) k)) e (took_none x.taken);
+  took = λ told. subst (λ k. Took x.source.reads x.source.reads (slice_of (parts.places_of c file) (base + at) k)) e (took_none x.source.reads);
 }
 
-pub filling_more : (c : Line) (file base from at n : ℕ) (q r s : Report) (x y z : Moment) → from ≤ at
+pub filling_more : (c : ReadSetting) (file base from at n : ℕ) (q r s : Report) (x y z : Moment) → from ≤ at
     → Filling c file base from at q r x y → Goes c (fetched_bytes n) y z → Counted r s (fetched_bytes n)
-    → (IsTrue c.tells → Took y.taken z.taken (slice_of (parts.places_of c file) (base + at) n)) → Filling c file base from (at + n) q s x z
+    → (IsTrue c.tells → Took y.source.reads z.source.reads (slice_of (parts.places_of c file) (base + at) n)) → Filling c file base from (at + n) q s x z
 filling_more c file base from at n q r s x y z le h goes count took =
     let e : at - from + n ≡ at + n - from = omega (arith, le) in
     let place : base + from + (at - from) ≡ base + at = omega (arith, le) in record {
       goes = goes_as c (at - from + n) (at + n - from) x z e (goes_more c (fetched_bytes (at - from)) (fetched_bytes n) x y z h.goes goes);
       report = counted_as q s (at - from + n) (at + n - from) e (counted_more q r s (fetched_bytes (at - from)) (fetched_bytes n) h.report count);
       took = λ told.
-          let both = took_both x.taken y.taken z.taken (slice_of (parts.places_of c file) (base + from) (at - from)) (slice_of (parts.places_of c file) (base + at) n) (h.took told) (took told) in
+          let both = took_both x.source.reads y.source.reads z.source.reads (slice_of (parts.places_of c file) (base + from) (at - from)) (slice_of (parts.places_of c file) (base + at) n) (h.took told) (took told) in
           let glue : slice_of (parts.places_of c file) (base + from) (at - from) ++ slice_of (parts.places_of c file) (base + at) n ≡ slice_of (parts.places_of c file) (base + from) (at + n - from) =
           ap (λ k. slice_of (parts.places_of c file) (base + from) (at - from) ++ slice_of (parts.places_of c file) k n) (sym place)
           ∙ slice_joined (parts.places_of c file) (base + from) (at - from) n ∙ ap (slice_of (parts.places_of c file) (base + from)) e in
-          subst (λ ps. Took x.taken z.taken ps) glue both;
+          subst (λ ps. Took x.source.reads z.source.reads ps) glue both;
     }
 
 -- what a piece took that may have been refused
-abbrev pub PieceTook : Line → ℕ → ℕ → ℕ → Moment → Moment → Type 0
-PieceTook c file place n x y = (ps : List (ℕ × ℕ)) × Took x.taken y.taken ps × (length ps ≤ n)
+abbrev pub PieceTook : ReadSetting → ℕ → ℕ → ℕ → Moment → Moment → Type 0
+PieceTook c file place n x y = (ps : List (ℕ × ℕ)) × Took x.source.reads y.source.reads ps × (length ps ≤ n)
 
 pub piece_all : (t u : Option (List (ℕ × ℕ × ℕ))) (xs : List (ℕ × ℕ)) (at n : ℕ) → Took t u (slice_of xs at n) → (ps : List (ℕ × ℕ)) × Took t u ps × (length ps ≤ n)
 piece_all t u xs at n h = (slice_of xs at n, h, omega (arith, length-take n (drop at xs)))
@@ -79,9 +79,9 @@ pub piece_some : (t u : Option (List (ℕ × ℕ × ℕ))) (xs : List (ℕ × �
 piece_some t u xs at n h = (take h.0 (slice_of xs at n), h.1, omega (arith, length-take h.0 (slice_of xs at n), length-take n (drop at xs)))
 
 -- a gap whose piece was refused
-pub partly_refused : (c : Line) (file base from at n end : ℕ) (q r : Report) (x y z w : Moment) → from ≤ at → at + n ≤ end
+pub partly_refused : (c : ReadSetting) (file base from at n end : ℕ) (q r : Report) (x y z w : Moment) → from ≤ at → at + n ≤ end
     → (IsTrue c.tells → base + end ≤ length (parts.places_of c file))
-    → Filling c file base from at q r x y → Goes c (fetched_bytes 0) y z → Goes c no_bytes z w → w.taken ≡ z.taken
+    → Filling c file base from at q r x y → Goes c (fetched_bytes 0) y z → Goes c no_bytes z w → w.source.reads ≡ z.source.reads
     → (IsTrue c.tells → PieceTook c file (base + at) n y z) → Partly c (end - from) q r x w
 partly_refused c file base from at n end q r x y z w le most inside h piece failed same took = let e : at - from + 0 + 0 ≡ at - from = omega arith in record {
   count = at - from;
@@ -92,12 +92,12 @@ partly_refused c file base from at n end q r x y z w le most inside h piece fail
       let more = took told in
       let before = slice_of (parts.places_of c file) (base + from) (at - from) in
       let size : length before ≡ at - from = slice_length (parts.places_of c file) (base + from) (at - from) (omega (arith, inside told, le, most)) in
-      let both : Took x.taken z.taken (before ++ more.0) = took_both x.taken y.taken z.taken before more.0 (h.took told) more.1 in
-      (before ++ more.0, subst (λ t. Took x.taken t (before ++ more.0)) (sym same) both, omega (arith, length-append before more.0, size), omega (arith, length-append before more.0, size, more.2, le, most));
+      let both : Took x.source.reads z.source.reads (before ++ more.0) = took_both x.source.reads y.source.reads z.source.reads before more.0 (h.took told) more.1 in
+      (before ++ more.0, subst (λ t. Took x.source.reads t (before ++ more.0)) (sym same) both, omega (arith, length-append before more.0, size), omega (arith, length-append before more.0, size, more.2, le, most));
 }
 
 -- a gap that was filled
-pub partly_filled : (c : Line) (file base from end : ℕ) (q r : Report) (x y : Moment) → from ≤ end → (IsTrue c.tells → base + end ≤ length (parts.places_of c file)) → Filling c file base from end q r x y → Partly c (end - from) q r x y
+pub partly_filled : (c : ReadSetting) (file base from end : ℕ) (q r : Report) (x y : Moment) → from ≤ end → (IsTrue c.tells → base + end ≤ length (parts.places_of c file)) → Filling c file base from end q r x y → Partly c (end - from) q r x y
 partly_filled c file base from end q r x y le inside h = record {
   count = end - from;
   most = omega arith;
@@ -108,7 +108,7 @@ partly_filled c file base from end q r x y le inside h = record {
       (slice_of (parts.places_of c file) (base + from) (end - from), h.took told, omega (arith, size), omega (arith, size));
 }
 
-pub whole_filled : (c : Line) (file base from end : ℕ) (q r : Report) (x y : Moment) → from ≤ end → (IsTrue c.tells → base + end ≤ length (parts.places_of c file)) → Filling c file base from end q r x y → Whole c (end - from) q r x y
+pub whole_filled : (c : ReadSetting) (file base from end : ℕ) (q r : Report) (x y : Moment) → from ≤ end → (IsTrue c.tells → base + end ≤ length (parts.places_of c file)) → Filling c file base from end q r x y → Whole c (end - from) q r x y
 whole_filled c file base from end q r x y le inside h = record {
   goes = h.goes;
   report = h.report;

@@ -27,8 +27,8 @@ use Rattle.cache_door.specs.Good.{Good, weigh_hold, hold_ticket}
 use Rattle.cache_door.specs.Doors.{IsWant, HasLength}
 use Rattle.cache_door.specs.Takes.{want_of, visit, taken_by, after, spread_over}
 use Rattle.cache_reader.specs.declared.part.Last.{Last}
-use Rattle.cache_reader.specs.Parts.{Line, bytes_of, places_of}
-use Rattle.cache_reader.specs.Alone.{Fits, Went, went_part, stood, entry_of, fetched_by, direct_by}
+use Rattle.cache_reader.specs.Parts.{ReadSetting, bytes_of, places_of}
+use Rattle.cache_reader.specs.Alone.{Fits, Outcome, part_outcome, unchanged, entry_of, fetched_by, direct_by}
 use Rattle.cache_reader.proofs.Rooms.{found_inside}
 
 some_none : {X : Type 0} {x : X} → None ≡ Some x → ⊥
@@ -308,11 +308,11 @@ module _ {tells : Bool} {files : ℕ → ℕ → List ℕ} (s : State) (good : G
       let g = glanced s good archive a mount now want l one actor none delta fits key is_want long copied in
       none_taken (enter a mount want now s) a l.region (p.start / s.config.region * s.config.region) bytes p s g.0 g.1
 
-  pub glanced_part : (c : Line) (file : ℕ) → Fits c.mount c.now l s → let want = want_of s.config.region c.table.number file (length (bytes_of c file)) p in
-      l.key ≡ want.key → IsWant s.config want → HasLength files s.config want → look l.region want s ≡ glance.Copied → went_part c a file p s ≡ stood s
+  pub glanced_part : (c : ReadSetting) (file : ℕ) → Fits c.mount c.now l s → let want = want_of s.config.region c.table.number file (length (bytes_of c file)) p in
+      l.key ≡ want.key → IsWant s.config want → HasLength files s.config want → look l.region want s ≡ glance.Copied → part_outcome c a file p s ≡ unchanged s
   glanced_part c file fits key is_want long copied =
       let want = want_of s.config.region c.table.number file (length (bytes_of c file)) p in
       let g = glanced s good archive a c.mount c.now want l one actor none delta fits key is_want long copied in
-      let made : List ByteRange × State → Entered → Went = λ x e. record { places = spread_over (places_of c file) x.0; fetched = fetched_by e; direct = direct_by e p; state = x.1 } in
+      let made : List ByteRange × State → Entered → Outcome = λ x e. record { places = spread_over (places_of c file) x.0; fetched = fetched_by e; direct = direct_by e p; state = x.1 } in
       ap (λ (x : List ByteRange × State). made x (entry_of c a file p s)) (visited c.mount c.table.number file c.now (bytes_of c file) fits key is_want long copied)
       ∙ ap (λ (e : Entered). made (pair [] s) e) g.0

@@ -1,15 +1,16 @@
 -- Steps of reads, one behind another.
-use Rattle.std.proofs.Common.{arith, ◌≡◌, ◌<◌, ◌≤◌, ◌+◌, ℕ, List, Bool, Option, min}
+use Rattle.std.proofs.Common.{arith, ◌≡◌, ◌<◌, ◌≤◌, ◌+◌, ℕ, refl, min}
 use Rattle.std.proofs.Math.Nat.{le_refl}
 use Rattle.cache_door.specs.declared.work.Work.{Work}
-use Rattle.cache_door.specs.Doors.{Grown, Works, no_work}
-use Rattle.cache_door.specs.Machine.{State}
+use Rattle.cache_outside.specs.Sources.{SourceView}
+use Rattle.blob_parts.specs.Takes.{SourceLater}
+use Rattle.cache_door.specs.Doors.{DoorView, DoorLater, Works, no_work}
 use Rattle.cache_reader.specs.declared.report.Report.{Report}
 use Rattle.cache_reader.specs.Reports.{no_bytes, Grew, Counted}
 use Rattle.cache_reader.specs.Bounds.{Worked}
-use Rattle.cache_reader.specs.Parts.{Line}
+use Rattle.cache_reader.specs.Parts.{ReadSetting}
 use Rattle.cache_reader.specs.Going.{moment, Goes}
-pub use Rattle.cache_reader.specs.Through.{grew_none, grew_more, rose_first, rose_then, worked_none, worked_more, goes_none, goes_more, counted_none, counted_more, took_none, took_both, bounded_none, bounded_more, takes_none, takes_more, no_reads, more_reads}
+pub use Rattle.cache_reader.specs.Through.{grew_none, grew_more, rose_first, rose_then, worked_none, worked_more, goes_none, goes_more, counted_none, counted_more, took_none, took_both, bounded_none, bounded_more, takes_none, takes_more}
 
 pub grew_through : (a b r n : ℕ) → Grew a b r → Grew 0 r n → Grew a b n
 grew_through a b r n h k = record {
@@ -39,6 +40,10 @@ worked_idle a b h =
       clears = omega (arith, cv, h.clears.later);
     }
 
-pub door_step : (c : Line) (faults : ℕ) (taken : Option (List (ℕ × ℕ × ℕ))) (a b : ℕ) (p q r s : ℕ → Bool) (v w : Work) (t u : Option State)
-    → a ≤ b → Grown p q → s ≡ r → Worked no_bytes v w → Goes c no_bytes (moment faults taken a p r v t) (moment faults taken b q s w u)
-door_step c faults taken a b p q r s v w t u le grown same work = record { faults = le_refl faults; frame_faults = le; seen = grown; unmounted = same; work = work }
+-- a call of the door alone
+pub door_step : (c : ReadSetting) (s : SourceView) (d e : DoorView) → DoorLater d e → e.unmounted ≡ d.unmounted → Worked no_bytes d.work e.work → Goes c no_bytes (moment s d) (moment s e)
+door_step c s d e later same work = record { identity = refl; faults = le_refl s.faults; frame_faults = later.faults; seen = later.seen; unmounted = same; work = work }
+
+-- a call of the source alone
+pub source_step : (c : ReadSetting) (s t : SourceView) (d : DoorView) (fault : Type 0) → SourceLater s t fault → Goes c no_bytes (moment s d) (moment t d)
+source_step c s t d fault later = record { identity = later.identity; faults = later.later; frame_faults = le_refl d.frame_faults; seen = λ m h. h; unmounted = refl; work = worked_none d.work }

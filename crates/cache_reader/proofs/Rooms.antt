@@ -19,7 +19,7 @@ use Rattle.cache_door.specs.declared.answers.Entered.TheVariants.{Held, NoRoom, 
 use Rattle.cache_door.specs.declared.hold.Hold.{Hold}
 use Rattle.cache_door.specs.Machine.{State, cell_at, is_gone, is_held_by, unheld_by, settled_by, evicted, room_by, make_room, place, enter, enter_at, store, leave, hold_at}
 use Rattle.cache_door.specs.Good.{Good}
-use Rattle.cache_door.specs.Doors.{SameState}
+use Rattle.cache_door.specs.Doors.{SameState, storing, leaving}
 use Rattle.cache_reader.specs.declared.part.Last.{Last}
 use Rattle.cache_reader.specs.Alone.{Fits, LastFits, SamePolicy}
 
@@ -328,11 +328,11 @@ present_policy None (Some t) p = absurd p
 present_policy (Some s) None p = absurd p
 present_policy (Some s) (Some t) p = (p.config, p.policy, p.gone)
 
-pub stored_policy : (a : ℕ) (piece : List ℕ) (x : Option State) → SamePolicy x (option_map (λ (s : State). store a (hold_at s a) piece s) x)
+pub stored_policy : (a : ℕ) (piece : List ℕ) (x : Option State) → SamePolicy x (option_map (storing piece a) x)
 stored_policy a piece None = refl
 stored_policy a piece (Some s) = store_policy s a (hold_at s a) piece
 
-pub left_policy : (a : ℕ) (x : Option State) → SamePolicy x (option_map (λ (s : State). leave a (hold_at s a) s) x)
+pub left_policy : (a : ℕ) (x : Option State) → SamePolicy x (option_map (leaving a) x)
 left_policy a None = refl
 left_policy a (Some s) = leave_policy s a (hold_at s a)
 

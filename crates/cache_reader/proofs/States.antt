@@ -12,9 +12,9 @@ use Rattle.region_cell.specs.declared.taken.Taken.TheVariants as taken
 use Rattle.cache_door.specs.declared.hold.Hold.{Hold}
 use Rattle.cache_door.specs.Machine.{State, hold_at, store, fail, leave, take_bytes}
 use Rattle.cache_door.specs.Good.{Good}
-use Rattle.cache_door.specs.Doors.{HoldView, hold_view, nothing, SameState}
+use Rattle.cache_door.specs.Doors.{DoorView, HoldView, hold_view, nothing, SameState, Becomes, CopyOrFault, AnswersCopy, FrameFails, taking, storing, failing, leaving}
 use Rattle.cache_reader.specs.Reports.{Grew}
-use Rattle.cache_reader.specs.Parts.{Line}
+use Rattle.cache_reader.specs.Parts.{ReadSetting}
 use Rattle.cache_reader.specs.Stored.{gap_stored}
 use Rattle.cache_reader.specs.Holds.{Unfailed}
 use Rattle.cache_reader.specs.Alone.{SamePolicy, Copies}
@@ -32,27 +32,27 @@ fail_policy : (s : State) (a : ℕ) (o : Option Hold) → SamePolicy (Some s) (S
 fail_policy s a None = (refl, refl, refl)
 fail_policy s a (Some h) = (refl, refl, refl)
 
-failed_policy : (a : ℕ) (x : Option State) → SamePolicy x (option_map (λ (s : State). fail a (hold_at s a) s) x)
+failed_policy : (a : ℕ) (x : Option State) → SamePolicy x (option_map (failing a) x)
 failed_policy a None = refl
 failed_policy a (Some s) = fail_policy s a (hold_at s a)
 
-pub stored_kept : {T E : Type 0} (r : Result T E) (a : ℕ) (piece : List ℕ) (x y : Option State) → OnOk r (y ≡ option_map (λ (s : State). store a (hold_at s a) piece s) x) → OnErr r (SameState x y) → SamePolicy x y
+pub stored_kept : {T E : Type 0} (r : Result T E) (a : ℕ) (piece : List ℕ) (x y : Option State) → OnOk r (y ≡ option_map (storing piece a) x) → OnErr r (SameState x y) → SamePolicy x y
 stored_kept (Ok v) a piece x y h k = subst (λ o. SamePolicy x o) (sym h) (stored_policy a piece x)
 stored_kept (Err e) a piece x y h k = present_policy x y k
 
-pub failed_kept : (a : ℕ) (x y z : Option State) → SamePolicy x y → z ≡ option_map (λ (s : State). fail a (hold_at s a) s) y → SamePolicy x z
+pub failed_kept : (a : ℕ) (x y z : Option State) → SamePolicy x y → z ≡ option_map (failing a) y → SamePolicy x z
 failed_kept a x y z h e = policy_more x y z h (subst (λ o. SamePolicy y o) (sym e) (failed_policy a y))
 
-pub left_kept : (a : ℕ) (x y z : Option State) → SamePolicy x y → z ≡ option_map (λ (s : State). leave a (hold_at s a) s) y → SamePolicy x z
+pub left_kept : (a : ℕ) (x y z : Option State) → SamePolicy x y → z ≡ option_map (leaving a) y → SamePolicy x z
 left_kept a x y z h e = policy_more x y z h (subst (λ o. SamePolicy y o) (sym e) (left_policy a y))
 
 -- ---- a hold that is given back
 
-pub left_by : (a b : ℕ) (x y z : Option State) → z ≡ option_map (λ (s : State). leave b (hold_at s b) s) y → y ≡ x → b ≡ a → z ≡ option_map (λ (s : State). leave a (hold_at s a) s) x
-left_by a b x y z e f g = e ∙ ap (option_map (λ (s : State). leave b (hold_at s b) s)) f ∙ ap (λ n. option_map (λ (s : State). leave n (hold_at s n) s) x) g
+pub left_by : (d e f : DoorView) → Becomes e f leaving → e.state ≡ d.state → e.actor ≡ d.actor → Becomes d f leaving
+left_by d e f left same actor = left ∙ ap (option_map (leaving e.actor)) same ∙ ap (λ n. option_map (leaving n) d.state) actor
 
-pub left_at : (a b : ℕ) (y z : Option State) (t : State) → z ≡ option_map (λ (s : State). leave b (hold_at s b) s) y → y ≡ Some t → b ≡ a → z ≡ Some (leave a (hold_at t a) t)
-left_at a b y z t e f g = left_by a b (Some t) y z e f g
+pub left_at : (a b : ℕ) (y z : Option State) (t : State) → z ≡ option_map (leaving b) y → y ≡ Some t → b ≡ a → z ≡ Some (leave a (hold_at t a) t)
+left_at a b y z t e f g = e ∙ ap (option_map (leaving b)) f ∙ ap (λ n. Some (leaving n t)) g
 
 pub told_none : (o : Option Hold) → nothing ≡ hold_view o → o ≡ None
 told_none None e = refl
@@ -60,20 +60,24 @@ told_none (Some h) e = let k : false ≡ true = ap (λ (t : HoldView). t.held) e
 
 -- ---- a take
 
+copies_not : (r : Taken) (x : Option State) (a before mid now : ℕ) → r ≢ taken.Copied → IfSome x (λ s. CopyOrFault taken.Copied taken.FrameFault (taking a s) r) → (r ≡ taken.FrameFault → Rose before mid) → mid ≤ now
+    → IfSome x (Copies a before now false)
+copies_not r None a before mid now other answer fault le = tt
+copies_not taken.Copied (Some s) a before mid now other answer fault le = absurd (other refl)
+copies_not taken.Waiting (Some s) a before mid now other answer fault le = λ took calm. (let e : taken.Waiting ≡ taken.Copied = answer.same (λ f. (cc)) ∙ took in absurd (cc))
+copies_not taken.Failed (Some s) a before mid now other answer fault le = λ took calm. (let e : taken.Failed ≡ taken.Copied = answer.same (λ f. (cc)) ∙ took in absurd (cc))
+copies_not taken.FrameFault (Some s) a before mid now other answer fault le = λ took calm. absurd (calm (rose_first before mid now le (fault refl)))
+
 pub copies_true : (x : Option State) (a before now : ℕ) → IfSome x (Copies a before now true)
 copies_true None a before now = tt
 copies_true (Some s) a before now = λ took calm. refl
 
-pub copies_false : (r : Taken) (x : Option State) (a before mid now : ℕ) → r ≢ taken.Copied → IfSome x (λ s. r ≢ taken.FrameFault → r ≡ take_bytes (hold_at s a) s) → (r ≡ taken.FrameFault → Rose before mid) → mid ≤ now
-    → IfSome x (Copies a before now false)
-copies_false r None a before mid now other answer fault le = tt
-copies_false taken.Copied (Some s) a before mid now other answer fault le = absurd (other refl)
-copies_false taken.Waiting (Some s) a before mid now other answer fault le = λ took calm. (let e : taken.Waiting ≡ taken.Copied = answer (λ f. (cc)) ∙ took in absurd (cc))
-copies_false taken.Failed (Some s) a before mid now other answer fault le = λ took calm. (let e : taken.Failed ≡ taken.Copied = answer (λ f. (cc)) ∙ took in absurd (cc))
-copies_false taken.FrameFault (Some s) a before mid now other answer fault le = λ took calm. absurd (calm (rose_first before mid now le (fault refl)))
+pub copies_false : (r : Taken) (d e f : DoorView) → r ≢ taken.Copied → AnswersCopy d taken.Copied taken.FrameFault taking r → (r ≡ taken.FrameFault → FrameFails d e) → e.frame_faults ≤ f.frame_faults
+    → IfSome d.state (Copies d.actor d.frame_faults f.frame_faults false)
+copies_false r d e f other answer fault le = copies_not r d.state d.actor d.frame_faults e.frame_faults f.frame_faults other answer (λ is. (fault is).rose) le
 
 -- behind the store of its gap a hold is copied
-pub held_copies : {tells : Bool} {files : ℕ → ℕ → List ℕ} (c : Line) (a b file base : ℕ) (gap : Option ByteRange) (s : State) (told : HoldView) (before mid now : ℕ) (copied : Bool)
+pub held_copies : {tells : Bool} {files : ℕ → ℕ → List ℕ} (c : ReadSetting) (a b file base : ℕ) (gap : Option ByteRange) (s : State) (told : HoldView) (before mid now : ℕ) (copied : Bool)
     → Unfailed a s → length s.holds ≡ 1 → Good tells files (gap_stored c a file base gap s) → told ≡ hold_view (hold_at (gap_stored c a file base gap s) b) → b ≡ a → told.gap_end ≤ told.upto
     → Copies b mid now copied (gap_stored c a file base gap s) → before ≤ mid → (Rose before now → ⊥) → copied ≡ true
 held_copies c a b file base gap s told before mid now copied u one good is same closed copies le calm =

@@ -17,9 +17,9 @@ use Rattle.cache_door.specs.declared.hold.Hold.{Hold}
 use Rattle.cache_door.specs.declared.answers.Entered.TheVariants.{Held}
 use Rattle.cache_door.specs.Machine.{State, Cell, cell_at, hold_at, no_cell, with_cell, with_hold, store, store_into, leave}
 use Rattle.cache_door.specs.Good.{Good, weigh_hold, hold_gap}
-use Rattle.cache_door.specs.Doors.{HoldView, hold_view}
+use Rattle.cache_door.specs.Doors.{DoorView, Agrees, HoldView, hold_view}
 use Rattle.cache_door.specs.Takes.{after}
-use Rattle.cache_reader.specs.Parts.{Line, bytes_of}
+use Rattle.cache_reader.specs.Parts.{ReadSetting, bytes_of}
 use Rattle.cache_reader.specs.Stored.{rest_stored, gap_stored, StoredTo}
 use Rattle.cache_reader.proofs.Fills.{slice_length, slice_joined}
 
@@ -286,6 +286,10 @@ held_more s a h piece e = record {
 pub told_of : (P : State → Type 0) (o : Option State) (s : State) → IfSome o P → o ≡ Some s → P s
 told_of P o s h e = let Q : Option State → Type 0 = λ q. IfSome q P in subst Q e h
 
+-- what is told of a door
+pub at_rest : (tells : Bool) (files : ℕ → ℕ → List ℕ) (d : DoorView) (s : State) → IfSome d.state (Agrees tells files d) → d.state ≡ Some s → Agrees tells files d s
+at_rest tells files d s h e = told_of (Agrees tells files d) d.state s h e
+
 -- what is told of a hold that has an open gap
 hold_of : (o : Option Hold) → (hold_view o).upto < (hold_view o).gap_end → (h : Hold) × (o ≡ Some h)
 hold_of None h = absurd (omega (arith, h))
@@ -300,7 +304,7 @@ rest_cut xs base from n end le =
     ∙ ap (slice_of xs (base + from)) sum
 
 -- n bytes of the file from `from` on, and then the rest, is the rest from `from` on: `told` is what is told of the actor's hold
-pub rest_more : {tells : Bool} {files : ℕ → ℕ → List ℕ} (c : Line) (a file base from n end : ℕ) (s : State) (told : HoldView) → Good tells files s
+pub rest_more : {tells : Bool} {files : ℕ → ℕ → List ℕ} (c : ReadSetting) (a file base from n end : ℕ) (s : State) (told : HoldView) → Good tells files s
     → told ≡ hold_view (hold_at s a) → told.upto ≡ from → told.gap_end ≡ end → n < end - from → base + end ≤ length (bytes_of c file)
     → rest_stored c a file base (from + n) end (store a (hold_at s a) (slice_of (bytes_of c file) (base + from) n) s) ≡ rest_stored c a file base from end s
 rest_more c a file base from n end s told good is starts ends less inside =
@@ -317,11 +321,11 @@ rest_more c a file base from n end s told good is starts ends less inside =
     ∙ ap (λ l. store a (hold_at s a) l s) (rest_cut (bytes_of c file) base from n end (omega (arith, less)))
 
 -- the last piece
-pub rest_last : (c : Line) (a file base from n end : ℕ) (s : State) → n ≡ end - from → store a (hold_at s a) (slice_of (bytes_of c file) (base + from) n) s ≡ rest_stored c a file base from end s
+pub rest_last : (c : ReadSetting) (a file base from n end : ℕ) (s : State) → n ≡ end - from → store a (hold_at s a) (slice_of (bytes_of c file) (base + from) n) s ≡ rest_stored c a file base from end s
 rest_last c a file base from n end s e = ap (λ k. store a (hold_at s a) (slice_of (bytes_of c file) (base + from) k) s) e
 
 -- nothing is stored yet
-pub stored_none : (c : Line) (a file base from end : ℕ) (s : State) (now : Option State) → now ≡ Some s → from < end → StoredTo c a file base from from end s now
+pub stored_none : (c : ReadSetting) (a file base from end : ℕ) (s : State) (now : Option State) → now ≡ Some s → from < end → StoredTo c a file base from from end s now
 stored_none c a file base from end s now is less = record {
   state = s;
   is = is;
@@ -335,7 +339,7 @@ store_actors a None piece s = refl
 store_actors a (Some h) piece s = length-set s.holds a _
 
 -- and one piece more: `good` and `told` are those of the state before the piece
-pub stored_more : {tells : Bool} {files : ℕ → ℕ → List ℕ} (c : Line) (a file base from at n end : ℕ) (s : State) (before now : Option State) (piece : List ℕ) (told : HoldView)
+pub stored_more : {tells : Bool} {files : ℕ → ℕ → List ℕ} (c : ReadSetting) (a file base from at n end : ℕ) (s : State) (before now : Option State) (piece : List ℕ) (told : HoldView)
     → at < end → at + n ≤ end → base + end ≤ length (bytes_of c file) → piece ≡ slice_of (bytes_of c file) (base + at) n
     → ((t : State) → before ≡ Some t → Good tells files t × (told ≡ hold_view (hold_at t a))) → told.upto ≡ at → told.gap_end ≡ end
     → now ≡ option_map (λ t. store a (hold_at t a) piece t) before → StoredTo c a file base from at end s before → StoredTo c a file base from (at + n) end s now
@@ -353,10 +357,10 @@ stored_more c a file base from at n end s before now piece told less most inside
     }
 
 -- the gap is stored
-pub stored_all : (c : Line) (a file base : ℕ) (gap : ByteRange) (s : State) (now : Option State) → StoredTo c a file base gap.start gap.end gap.end s now → now ≡ Some (gap_stored c a file base (Some gap) s)
+pub stored_all : (c : ReadSetting) (a file base : ℕ) (gap : ByteRange) (s : State) (now : Option State) → StoredTo c a file base gap.start gap.end gap.end s now → now ≡ Some (gap_stored c a file base (Some gap) s)
 stored_all c a file base gap s now h = h.is ∙ ap Some (h.all (omega arith))
 
 -- behind an entry that holds a region: its gap is stored, and the hold given back
-pub after_gap : (c : Line) (a file base r : ℕ) (gap : Option ByteRange) (s : State) → let t = gap_stored c a file base gap s in after (Held r gap) a (bytes_of c file) base s ≡ leave a (hold_at t a) t
+pub after_gap : (c : ReadSetting) (a file base r : ℕ) (gap : Option ByteRange) (s : State) → let t = gap_stored c a file base gap s in after (Held r gap) a (bytes_of c file) base s ≡ leave a (hold_at t a) t
 after_gap c a file base r None s = refl
 after_gap c a file base r (Some g) s = refl

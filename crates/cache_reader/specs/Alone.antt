@@ -1,5 +1,6 @@
 -- What reads take, count and leave, where the state of the cache is told and one actor works alone.
-use Rattle.std.specs.Prelude.{◌≡◌, ◌<◌, ◌+◌, ◌-◌, ◌++◌, ℕ, Bool, true, false, IsTrue, List, [], ◌∷◌, length, Option, Some, None}
+use Rattle.std.specs.Prelude.{◌≡◌, ◌⊎◌, ◌<◌, ◌+◌, ◌-◌, ◌++◌, ℕ, Bool, true, false, IsTrue, List, [], ◌∷◌, length, map, Option, Some, None}
+use Rattle.std.specs.List.{flat_map}
 use Rattle.region_ranges.specs.declared.ranges.ByteRange.{ByteRange}
 use Rattle.region_ranges.specs.Keys.{tag_of}
 use Rattle.cache_policy.specs.Policy.{find}
@@ -22,11 +23,11 @@ use Rattle.cache_door.specs.Takes.{parts, want_of, visit, takes, spread_over}
 use Rattle.cache_reader.specs.declared.part.Last.{Last}
 use Rattle.cache_reader.specs.declared.report.Report.{Report}
 use Rattle.cache_reader.specs.Reports.{Grew}
-use Rattle.cache_reader.specs.Parts.{Line, bytes_of, places_of}
+use Rattle.cache_reader.specs.Parts.{ReadSetting, bytes_of, places_of}
 use Rattle.cache_reader.specs.Going.{Moment}
 
 -- blob and place of the bytes that were taken, in order, how many were stored and how many read directly, and the state behind it
-pub record Went : Type 0 where
+pub record Outcome : Type 0 where
   pub places : List (ℕ × ℕ)
   pub fetched : ℕ
   pub direct : ℕ
@@ -46,52 +47,106 @@ direct_by NoRoom p = p.end - p.start
 direct_by (Held r gap) p = 0
 
 -- the entry for a part of a file
-abbrev pub entry_of : Line → ℕ → ℕ → ByteRange → State → Entered
+abbrev pub entry_of : ReadSetting → ℕ → ℕ → ByteRange → State → Entered
 entry_of c a file p s = (enter a c.mount (want_of s.config.region c.table.number file (length (bytes_of c file)) p) c.now s).0
 
 -- one part of a file
-abbrev pub went_part : Line → ℕ → ℕ → ByteRange → State → Went
-went_part c a file p s =
+abbrev pub part_outcome : ReadSetting → ℕ → ℕ → ByteRange → State → Outcome
+part_outcome c a file p s =
     let x = visit a c.mount c.table.number file (bytes_of c file) c.now p s in
     record { places = spread_over (places_of c file) x.0; fetched = fetched_by (entry_of c a file p s); direct = direct_by (entry_of c a file p s) p; state = x.1 }
 
-abbrev pub stood : State → Went
-stood s = record { places = []; fetched = 0; direct = 0; state = s }
+abbrev pub unchanged : State → Outcome
+unchanged s = record { places = []; fetched = 0; direct = 0; state = s }
 
-abbrev pub then_went : Went → Went → Went
-then_went a b = record { places = a.places ++ b.places; fetched = a.fetched + b.fetched; direct = a.direct + b.direct; state = b.state }
+abbrev pub then_outcome : Outcome → Outcome → Outcome
+then_outcome a b = record { places = a.places ++ b.places; fetched = a.fetched + b.fetched; direct = a.direct + b.direct; state = b.state }
 
 -- one after another
-abbrev pub went_over : {X : Type 0} → (X → State → Went) → List X → State → Went
-went_over go [] s = stood s
-went_over go (x ∷ xs) s = let a = go x s in then_went a (went_over go xs a.state)
+abbrev pub outcome_over : {X : Type 0} → (X → State → Outcome) → List X → State → Outcome
+outcome_over go [] s = unchanged s
+outcome_over go (x ∷ xs) s = let a = go x s in then_outcome a (outcome_over go xs a.state)
 
 abbrev pub whole_of : Read → ByteRange
 whole_of r = record { start = r.at; end = r.at + r.size }
 
 -- A read. What it takes and the state behind it are those of `takes`; it counts over its parts.
-abbrev pub went_read : Line → ℕ → Read → State → Went
-went_read c a r s =
+abbrev pub read_outcome : ReadSetting → ℕ → Read → State → Outcome
+read_outcome c a r s =
     let x = takes a c.mount c.table.number r.file (bytes_of c r.file) (whole_of r) c.now s in
-    let n = went_over (went_part c a r.file) (parts s.config.range (whole_of r)) s in
+    let n = outcome_over (part_outcome c a r.file) (parts s.config.range (whole_of r)) s in
     record { places = spread_over (places_of c r.file) x.0; fetched = n.fetched; direct = n.direct; state = x.1 }
 
-abbrev pub went : Line → ℕ → List Read → State → Went
-went c a reads s = went_over (went_read c a) reads s
+abbrev pub reads_outcome : ReadSetting → ℕ → List Read → State → Outcome
+reads_outcome c a reads s = outcome_over (read_outcome c a) reads s
 
 -- what was taken, counted and left is just what `w` says
-pub record IsJust (w : Went) (report_before report_now : Report) (x y : Moment) : Type 0 where
-  pub taken : Took x.taken y.taken w.places
+pub record HasOutcome (w : Outcome) (report_before report_now : Report) (x y : Moment) : Type 0 where
+  pub places : Took x.source.reads y.source.reads w.places
   pub fetched : Grew report_before.fetched report_now.fetched w.fetched
   pub direct : Grew report_before.direct report_now.direct w.direct
-  pub state : y.state ≡ Some w.state
+  pub state : y.door.state ≡ Some w.state
 
--- Where the archive tells, no memory was wanted (`lacked`), no count of the source or of a frame rose, the least interval is at least
--- 1, and the state is told and has one actor, `w` tells what became of it.
-abbrev pub Exactly : Line → (State → Went) → Bool → Report → Report → Moment → Moment → Type 0
-Exactly c w lacked before now x y =
-    IsTrue c.tells → lacked ≡ false → (Rose x.faults y.faults → ⊥) → (Rose x.frame_faults y.frame_faults → ⊥) → 0 < c.config.min_delta
-    → (s : State) → x.state ≡ Some s → length s.holds ≡ 1 → IsJust (w s) before now x y
+-- Where the archive tells, no memory was wanted, no count of the source or of a frame rose, and the state is told and has one actor, this holds
+-- of that state.
+abbrev pub InCalm : ReadSetting → Bool → Moment → Moment → (State → Type 0) → Type 0
+InCalm c out_of_memory x y P =
+    IsTrue c.tells → out_of_memory ≡ false → (Rose x.source.faults y.source.faults → ⊥) → (Rose x.door.frame_faults y.door.frame_faults → ⊥)
+    → (s : State) → x.door.state ≡ Some s → length s.holds ≡ 1 → P s
+
+-- then `w` tells what became of it
+abbrev pub Calmly : ReadSetting → (State → Outcome) → Bool → Report → Report → Moment → Moment → Type 0
+Calmly c w out_of_memory before now x y = InCalm c out_of_memory x y (λ s. HasOutcome (w s) before now x y)
+
+-- the same where the least interval is at least 1
+abbrev pub Exactly : ReadSetting → (State → Outcome) → Bool → Report → Report → Moment → Moment → Type 0
+Exactly c w out_of_memory before now x y = 0 < c.config.min_delta → Calmly c w out_of_memory before now x y
+
+-- ---- the parts that were entered for, whatever the least interval is
+
+-- a part of a file
+pub record FilePart : Type 0 where
+  pub file : ℕ
+  pub part : ByteRange
+
+abbrev pub in_file : ℕ → ByteRange → FilePart
+in_file file p = record { file = file; part = p }
+
+-- the parts of a read, and of reads one after another
+abbrev pub parts_of : ℕ → Read → List FilePart
+parts_of range r = map (in_file r.file) (parts range (whole_of r))
+
+abbrev pub reads_parts : ℕ → List Read → List FilePart
+reads_parts range reads = flat_map (parts_of range) reads
+
+-- an entry for a part of a file
+abbrev pub entry_for : ReadSetting → ℕ → FilePart → State → Outcome
+entry_for c a q s = part_outcome c a q.file q.part s
+
+-- A part was copied at a glance: a look at some region finds all of it. Where the least interval is at least 1, an entry for it would have
+-- taken nothing and changed nothing.
+pub record IsGlanced (c : ReadSetting) (a : ℕ) (q : FilePart) (s : State) : Type 0 where
+  pub region : ℕ
+  pub found : look region (want_of s.config.region c.table.number q.file (length (bytes_of c q.file)) q.part) s ≡ glance.Copied
+  pub idle : 0 < s.config.min_delta → entry_for c a q s ≡ unchanged s
+
+-- from state s on, `entered` are those of these parts, in order, that were entered for; each other one was copied at a glance
+abbrev pub AreEntered : ReadSetting → ℕ → List FilePart → List FilePart → State → Type 0
+AreEntered c a entered [] s = entered ≡ []
+AreEntered c a entered (q ∷ qs) s =
+    (IsGlanced c a q s × AreEntered c a entered qs s)
+    ⊎ ((rest : List FilePart) × (entered ≡ q ∷ rest) × AreEntered c a rest qs (entry_for c a q s).state)
+
+-- those of the parts that were entered for, one after another, tell what became of a state
+pub record HasEntries (c : ReadSetting) (a : ℕ) (ps : List FilePart) (report_before report_now : Report) (x y : Moment) (s : State) : Type 0 where
+  pub entered : List FilePart
+  pub are : AreEntered c a entered ps s
+  pub outcome : HasOutcome (outcome_over (entry_for c a) entered s) report_before report_now x y
+
+abbrev pub ByEntries : ReadSetting → ℕ → List FilePart → Bool → Report → Report → Moment → Moment → Type 0
+ByEntries c a ps out_of_memory before now x y = InCalm c out_of_memory x y (HasEntries c a ps before now x y)
+
+-- ---- what a reader keeps of the part that was copied last
 
 -- The part that was copied last, in a state that is told: its mount is not gone, its region is still mapped to its key, and an access
 -- at the same time changes nothing, where the least interval is at least 1.
@@ -113,17 +168,15 @@ SamePolicy (Some s) None = ⊥
 
 -- What a hold, whose region's first byte is byte `base` of the file and whose gap is this, makes of a state: the gap was taken, counted and
 -- stored, and the hold given back.
-pub record HeldJust (c : Line) (a file base : ℕ) (gap : Option ByteRange) (s : State) (report_before report_now : Report) (x y : Moment) : Type 0 where
-  pub taken : Took x.taken y.taken (slice_of (places_of c file) (base + range_start gap) (range_end gap - range_start gap))
+pub record HasHeldOutcome (c : ReadSetting) (a file base : ℕ) (gap : Option ByteRange) (s : State) (report_before report_now : Report) (x y : Moment) : Type 0 where
+  pub places : Took x.source.reads y.source.reads (slice_of (places_of c file) (base + range_start gap) (range_end gap - range_start gap))
   pub fetched : Grew report_before.fetched report_now.fetched (range_end gap - range_start gap)
   pub direct : Grew report_before.direct report_now.direct 0
-  pub state : let t = gap_stored c a file base gap s in y.state ≡ Some (leave a (hold_at t a) t)
+  pub state : let t = gap_stored c a file base gap s in y.door.state ≡ Some (leave a (hold_at t a) t)
 
--- the same under the premises of `Exactly`, where the hold did not fail
-abbrev pub HeldExactly : Line → ℕ → ℕ → ℕ → Option ByteRange → Bool → Report → Report → Moment → Moment → Type 0
-HeldExactly c a file base gap lacked before now x y =
-    IsTrue c.tells → lacked ≡ false → (Rose x.faults y.faults → ⊥) → (Rose x.frame_faults y.frame_faults → ⊥)
-    → (s : State) → x.state ≡ Some s → length s.holds ≡ 1 → Unfailed a s → HeldJust c a file base gap s before now x y
+-- this in calm, where the hold did not fail
+abbrev pub HeldExactly : ReadSetting → ℕ → ℕ → ℕ → Option ByteRange → Bool → Report → Report → Moment → Moment → Type 0
+HeldExactly c a file base gap out_of_memory before now x y = InCalm c out_of_memory x y (λ s. Unfailed a s → HasHeldOutcome c a file base gap s before now x y)
 
 -- the part that was copied last had this key, and a look at its region finds what is wanted
 abbrev pub Looked : Option Last → Want → State → Type 0

@@ -5,7 +5,7 @@ use Rattle.blob_parts.specs.Takes.{Took}
 use Rattle.cache_door.specs.Doors.{HoldView}
 use Rattle.cache_reader.specs.declared.report.Report.{Report}
 use Rattle.cache_reader.specs.Reports.{Counted, fetched_bytes}
-use Rattle.cache_reader.specs.Parts.{Line, places_of}
+use Rattle.cache_reader.specs.Parts.{ReadSetting, places_of}
 use Rattle.cache_reader.specs.Going.{Moment, Goes, Takes}
 
 abbrev pub piece_count : {E : Type 0} → ℕ → Result Bool E → ℕ
@@ -20,25 +20,25 @@ piece_hold n (Ok false) t = t
 piece_hold n (Err e) t = t
 
 -- the bytes `from` to `at` of a region were fetched and stored
-pub record Filling (c : Line) (file base from at : ℕ) (report_before report_now : Report) (x y : Moment) : Type 0 where
+pub record Filling (c : ReadSetting) (file base from at : ℕ) (report_before report_now : Report) (x y : Moment) : Type 0 where
   pub goes : Goes c (fetched_bytes (at - from)) x y
   pub report : Counted report_before report_now (fetched_bytes (at - from))
-  pub took : IsTrue c.tells → Took x.taken y.taken (slice_of (places_of c file) (base + from) (at - from))
+  pub took : IsTrue c.tells → Took x.source.reads y.source.reads (slice_of (places_of c file) (base + from) (at - from))
 
 -- Some bytes of a gap of so many were fetched and stored. They were taken, and where that was not all at most a piece more; a frame
 -- refused a piece only where its count rose.
-pub record Partly (c : Line) (gap : ℕ) (report_before report_now : Report) (x y : Moment) : Type 0 where
+pub record Partly (c : ReadSetting) (gap : ℕ) (report_before report_now : Report) (x y : Moment) : Type 0 where
   pub count : ℕ
   pub most : count ≤ gap
   pub goes : Goes c (fetched_bytes count) x y
   pub report : Counted report_before report_now (fetched_bytes count)
-  pub took : IsTrue c.tells → (places : List (ℕ × ℕ)) × Took x.taken y.taken places × (count ≤ length places) × (length places ≤ gap)
+  pub took : IsTrue c.tells → (places : List (ℕ × ℕ)) × Took x.source.reads y.source.reads places × (count ≤ length places) × (length places ≤ gap)
 
 -- a gap of so many bytes was fetched and stored
-pub record Whole (c : Line) (size : ℕ) (report_before report_now : Report) (x y : Moment) : Type 0 where
+pub record Whole (c : ReadSetting) (size : ℕ) (report_before report_now : Report) (x y : Moment) : Type 0 where
   pub goes : Goes c (fetched_bytes size) x y
   pub report : Counted report_before report_now (fetched_bytes size)
-  pub took : IsTrue c.tells → (places : List (ℕ × ℕ)) × Took x.taken y.taken places × (length places ≡ size)
+  pub took : IsTrue c.tells → (places : List (ℕ × ℕ)) × Took x.source.reads y.source.reads places × (length places ≡ size)
 
 -- the hold stays, but for its gap
 pub record SameHold (a b : HoldView) : Type 0 where
@@ -47,15 +47,18 @@ pub record SameHold (a b : HoldView) : Type 0 where
   pub tag : b.tag ≡ a.tag
   pub sub : b.sub ≡ a.sub
 
--- What a read of so many bytes did that was answered or refused: `lacked` says that the answer was want of memory. Where it was answered,
--- its bytes were copied or read directly.
-pub record PartGoes (c : Line) (size : ℕ) (answered lacked : Bool) (report_before report_now : Report) (x y : Moment) : Type 0 where
+-- What a read did that gave so many bytes of its answer, copied or read directly. `out_of_memory` says that the answer was want of memory.
+pub record PartGoes (c : ReadSetting) (size : ℕ) (out_of_memory : Bool) (report_before report_now : Report) (x y : Moment) : Type 0 where
   pub counts : Report
   pub report : Counted report_before report_now counts
-  pub most : counts.hit + counts.direct ≤ size
-  pub all : answered ≡ true → counts.hit + counts.direct ≡ size
+  pub all : counts.hit + counts.direct ≡ size
   pub goes : Goes c counts x y
-  pub takes : IsTrue c.tells → Takes c lacked x y
+  pub takes : IsTrue c.tells → Takes c out_of_memory x y
+
+-- how many bytes a part gives: all of them, or none where it is refused
+abbrev pub given : Bool → ℕ → ℕ
+given true size = size
+given false size = 0
 
 abbrev pub is_answered : {T E : Type 0} → Result T E → Bool
 is_answered (Ok x) = true

@@ -8,3 +8,5 @@ pub mod Through
 pub mod Stored
 pub mod Holds
 pub mod Runs
+pub mod Reader
+pub mod Onward

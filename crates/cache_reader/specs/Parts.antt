@@ -7,7 +7,7 @@ use Rattle.blob_parts.specs.Content.{content, content_places}
 use Rattle.cache_reader.specs.declared.part.Setting.{Setting}
 
 -- the archive, the table, the cache's settings, the mount, and the time
-pub record Line : Type 0 where
+pub record ReadSetting : Type 0 where
   pub tells : Bool
   pub blobs : Listing
   pub table : TableParts
@@ -15,11 +15,11 @@ pub record Line : Type 0 where
   pub mount : ℕ
   pub now : ℕ
 
-abbrev pub line : Bool → Listing → TableParts → Setting → Line
-line tells blobs table s = record { tells = tells; blobs = blobs; table = table; config = s.config; mount = s.mount; now = s.time }
+abbrev pub read_setting : Bool → Listing → TableParts → Setting → ReadSetting
+read_setting tells blobs table s = record { tells = tells; blobs = blobs; table = table; config = s.config; mount = s.mount; now = s.time }
 
-abbrev pub bytes_of : Line → ℕ → List ℕ
+abbrev pub bytes_of : ReadSetting → ℕ → List ℕ
 bytes_of c file = content c.blobs c.table.number file
 
-abbrev pub places_of : Line → ℕ → List (ℕ × ℕ)
+abbrev pub places_of : ReadSetting → ℕ → List (ℕ × ℕ)
 places_of c file = content_places c.blobs c.table.number file

@@ -1,4 +1,4 @@
--- Reads behind reads.
+-- Counts and places, added up.
 use Rattle.std.proofs.Common.{arith, ◌≡◌, ◌<◌, ◌≤◌, ◌+◌, ℕ, List, [], ◌∷◌, ◌++◌, length, Bool, true, false, Option, Some, None, refl, ap, sym, subst, ◌∙◌, inl, inr}
 use Rattle.std.specs.Prelude.{IsTrue}
 use Rattle.std.proofs.lemmas.Bool.{cases_lt}
@@ -18,8 +18,8 @@ use Rattle.cache_reader.specs.declared.report.Report.{Report}
 use Rattle.cache_reader.specs.declared.part.Setting.{Setting}
 use Rattle.cache_reader.specs.Reports.{joined, no_bytes, Grew, Counted}
 use Rattle.cache_reader.specs.Bounds.{Bounded, Worked}
-use Rattle.cache_reader.specs.Parts.{Line, line}
-use Rattle.cache_reader.specs.Going.{Moment, Goes, Takes, ReadsThrough}
+use Rattle.cache_reader.specs.Parts.{ReadSetting, read_setting}
+use Rattle.cache_reader.specs.Going.{Moment, Goes, Takes}
 use Rattle.cache_outside.specs.Listing.{Listing}
 
 pub grew_none : (n : ℕ) → Grew n n 0
@@ -53,16 +53,17 @@ worked_more m n a b d h k = record {
   clears = k.clears ∙ h.clears;
 }
 
-pub goes_none : (c : Line) (x : Moment) → Goes c no_bytes x x
-goes_none c x = record { faults = le_refl x.faults; frame_faults = le_refl x.frame_faults; seen = λ m h. h; unmounted = refl; work = worked_none x.work }
+pub goes_none : (c : ReadSetting) (x : Moment) → Goes c no_bytes x x
+goes_none c x = record { identity = refl; faults = le_refl x.source.faults; frame_faults = le_refl x.door.frame_faults; seen = λ m h. h; unmounted = refl; work = worked_none x.door.work }
 
-pub goes_more : (c : Line) (m n : Report) (x y z : Moment) → Goes c m x y → Goes c n y z → Goes c (joined m n) x z
+pub goes_more : (c : ReadSetting) (m n : Report) (x y z : Moment) → Goes c m x y → Goes c n y z → Goes c (joined m n) x z
 goes_more c m n x y z h k = record {
+  identity = k.identity ∙ h.identity;
   faults = le_trans h.faults k.faults;
   frame_faults = le_trans h.frame_faults k.frame_faults;
   seen = λ a g. k.seen a (h.seen a g);
   unmounted = k.unmounted ∙ h.unmounted;
-  work = worked_more m n x.work y.work z.work h.work k.work;
+  work = worked_more m n x.door.work y.door.work z.door.work h.work k.work;
 }
 
 pub counted_none : (a : Report) → Counted a a no_bytes
@@ -99,57 +100,19 @@ bounded_more range a b d m n up on h k s t =
     let second = k s t in
     (omega (arith, first.0, second.0), omega (arith, first.1, second.1))
 
-pub takes_none : (c : Line) (lacked : Bool) (x : Moment) → Takes c lacked x x
-takes_none c lacked x = record { places = []; took = took_none x.taken; bound = λ a b. bounded_none c.config.range x.work }
+pub takes_none : (c : ReadSetting) (out_of_memory : Bool) (x : Moment) → Takes c out_of_memory x x
+takes_none c out_of_memory x = record { places = []; took = took_none x.source.reads; bound = λ a b. bounded_none c.config.range x.door.work }
 
-pub takes_more : (c : Line) (k l : Bool) (m n : Report) (x y z : Moment) → (l ≡ false → k ≡ false) → Goes c m x y → Goes c n y z → Takes c k x y → Takes c l y z → Takes c l x z
+pub takes_more : (c : ReadSetting) (k l : Bool) (m n : Report) (x y z : Moment) → (l ≡ false → k ≡ false) → Goes c m x y → Goes c n y z → Takes c k x y → Takes c l y z → Takes c l x z
 takes_more c k l m n x y z marks first second h j = record {
   places = h.places ++ j.places;
-  took = took_both x.taken y.taken z.taken h.places j.places h.took j.took;
-  bound = λ unwanted calm. rw (length-append h.places j.places) (bounded_more c.config.range x.work y.work z.work (length h.places) (length j.places) second.work.stored.later second.work.turned
-      (h.bound (marks unwanted) (λ r. calm (rose_first x.faults y.faults z.faults second.faults r)))
-      (j.bound unwanted (λ r. calm (rose_then x.faults y.faults z.faults first.faults r))));
+  took = took_both x.source.reads y.source.reads z.source.reads h.places j.places h.took j.took;
+  bound = λ enough calm. rw (length-append h.places j.places) (bounded_more c.config.range x.door.work y.door.work z.door.work (length h.places) (length j.places) second.work.stored.later second.work.turned
+      (h.bound (marks enough) (λ r. calm (rose_first x.source.faults y.source.faults z.source.faults second.faults r)))
+      (j.bound enough (λ r. calm (rose_then x.source.faults y.source.faults z.source.faults first.faults r))));
 }
-
-allowed_more : (table : TableParts) (rs ss : List Read) → AreInTable table rs → AreInTable table ss → AreInTable table (rs ++ ss)
-allowed_more table [] ss h k = k
-allowed_more table (r ∷ rs) ss h k = (h.0, h.1, allowed_more table rs ss h.2 k)
 
 pub unmarked : (first then : Bool) → (IsTrue first → IsTrue then) → then ≡ false → first ≡ false
 unmarked false then h e = refl
 unmarked true then h e = let raised = h refl in absurd (cc)
 
-pub no_reads : (c : Line) (total : Report) (wanted : Bool) (x : Moment) → ReadsThrough c [] total total wanted wanted x x
-no_reads c total wanted x = record {
-  allowed = tt;
-  marked = λ h. h;
-  counts = no_bytes;
-  total = counted_none total;
-  most = omega arith;
-  goes = goes_none c x;
-  takes = λ told. takes_none c wanted x;
-}
-
-pub more_reads : (c : Line) (rs ss : List Read) (q r s : Report) (u v w : Bool) (x y z : Moment)
-    → ReadsThrough c rs q r u v x y → ReadsThrough c ss r s v w y z → ReadsThrough c (rs ++ ss) q s u w x z
-more_reads c rs ss q r s u v w x y z h k = record {
-  allowed = allowed_more c.table rs ss h.allowed k.allowed;
-  marked = λ m. k.marked (h.marked m);
-  counts = joined h.counts k.counts;
-  total = counted_more q r s h.counts k.counts h.total k.total;
-  most = omega (arith, h.most, k.most, sum_by-append (λ (r : Read). r.size) rs ss);
-  goes = goes_more c h.counts k.counts x y z h.goes k.goes;
-  takes = λ told. takes_more c v w h.counts k.counts x y z (unmarked v w k.marked) h.goes k.goes (h.takes told) (k.takes told);
-}
-
--- the same, where the later reads are of a table and a setting that are the same ones
-pub more_of_same : (tells : Bool) (blobs : Listing) (table other : TableParts) (own next : Setting) (rs ss : List Read) (q r s : Report) (u v w : Bool) (x y z : Moment)
-    → other ≡ table → next ≡ own → ReadsThrough (line tells blobs table own) rs q r u v x y → ReadsThrough (line tells blobs other next) ss r s v w y z
-    → ReadsThrough (line tells blobs table own) (rs ++ ss) q s u w x z
-more_of_same tells blobs table other own next rs ss q r s u v w x y z same kept h k =
-    let first : ReadsThrough (line tells blobs table next) ss r s v w y z = subst (λ t. ReadsThrough (line tells blobs t next) ss r s v w y z) same k in
-    more_reads (line tells blobs table own) rs ss q r s u v w x y z h (subst (λ n. ReadsThrough (line tells blobs table n) ss r s v w y z) kept first)
-
--- what was seen gone of a mount stays so
-pub gone_kept : (own next : Setting) (p q : ℕ → Bool) → next ≡ own → Grown p q → IsTrue (p own.mount) → IsTrue (q next.mount)
-gone_kept own next p q same grown seen = subst (λ (s : Setting). IsTrue (q s.mount)) (sym same) (grown own.mount seen)

@@ -1,16 +1,16 @@
 // The gap of a hold: fetched in pieces, each stored at once.
-ghost use Rattle.std.specs.Prelude.{option_map, ◌≡◌, ◌<◌, ◌≤◌, ◌+◌, ◌-◌, ◌*◌, true, false, Some, Ok, IsTrue, IsErrOf, IfSome, length};
+ghost use Rattle.std.specs.Prelude.{◌≡◌, ◌<◌, ◌≤◌, ◌+◌, ◌-◌, ◌*◌, true, false, Some, Ok, IsTrue, IsErrOf, IfSome, length};
 ghost use Rattle.cache_outside.specs.Causes.{Rose};
 ghost use Rattle.blob_parts.specs.Content.{content, content_places, slice_of};
 ghost use Rattle.blob_parts.specs.Tables.{file_length};
 ghost use Rattle.blob_parts.specs.Takes.{Takes, Took};
 ghost use Rattle.region_ranges.specs.Keys.{manifest_of};
 ghost use Rattle.region_cell.specs.Cells.{file_of, part_of};
-ghost use Rattle.cache_door.specs.Doors.{range_start, range_end};
-ghost use Rattle.cache_door.specs.Machine.{State, store, hold_at};
+ghost use Rattle.cache_door.specs.Doors.{Becomes, storing, range_start, range_end};
+ghost use Rattle.cache_door.specs.Machine.{State};
 ghost use Rattle.cache_reader.specs.Reports.{fetched_bytes};
-ghost use Rattle.cache_reader.specs.Parts.{line};
-ghost use Rattle.cache_reader.specs.Going.{Between, Goes};
+ghost use Rattle.cache_reader.specs.Parts.{read_setting};
+ghost use Rattle.cache_reader.specs.Going.{moment, Goes};
 ghost use Rattle.cache_reader.specs.Filling.{piece_hold, piece_count, Partly, Whole, SameHold};
 ghost use Rattle.cache_reader.specs.Stored.{rest_stored, gap_stored};
 ghost use Rattle.cache_reader.specs.Alone.{SamePolicy};
@@ -38,20 +38,19 @@ fn store_piece<A: Archive, D: CacheDoor<A>, S: BlobSource<A>>(
     setting: &Setting,
 ) -> Result<bool, FetchError>
     requires file { file < length table.now.files }
-    requires held { (D.hold door.old).held ≡ true }
-    requires gap { ((D.hold door.old).upto + len ≤ (D.hold door.old).gap_end) × (0 < len) × (len ≤ 65536) }
-    requires place { (manifest_of (D.hold door.old).tag ≡ table.now.number) × (file_of (D.hold door.old).tag ≡ file) × (at ≡ part_of (D.hold door.old).tag * (D.config door.old).region + (D.hold door.old).upto) }
+    requires held { (D.view door.old).hold.held ≡ true }
+    requires gap { ((D.view door.old).hold.upto + len ≤ (D.view door.old).hold.gap_end) × (0 < len) × (len ≤ 65536) }
+    requires place { (manifest_of (D.view door.old).hold.tag ≡ table.now.number) × (file_of (D.view door.old).hold.tag ≡ file) × (at ≡ part_of (D.view door.old).hold.tag * (D.view door.old).config.region + (D.view door.old).hold.upto) }
     requires inside { at + len ≤ file_length table.now file }
     ensures stays { D.stays door.old door.new }
-    ensures hold { D.hold door.new ≡ piece_hold len result (D.hold door.old) }
-    ensures fault { IsErrOf result FetchError.Fault → Rose (S.faults source.old) (S.faults source.new) }
-    ensures frame { result ≡ Ok false → Rose (D.frame_faults door.old) (D.frame_faults door.new) }
-    ensures turned { result ≡ Ok false → Rose (D.work door.old).turned_away (D.work door.new).turned_away }
-    ensures same { S.which source.new ≡ S.which source.old }
-    ensures goes { Between (Goes (line A.tells A.blobs table.now setting.now) (fetched_bytes (piece_count len result))) S.faults S.taken D.frame_faults D.seen_gone D.unmounted D.work D.state source.old source.new door.old door.new }
-    ensures taken { IsTrue A.tells → Takes (S.taken source.old) (S.taken source.new) (slice_of (content_places A.blobs table.now.number file) at len) result }
-    ensures kept { SamePolicy (D.state door.old) (D.state door.new) }
-    ensures stored { result ≡ Ok true → IsTrue A.tells → D.state door.new ≡ option_map (λ s. store (D.actor door.old) (hold_at s (D.actor door.old)) (slice_of (content A.blobs table.now.number file) at len) s) (D.state door.old) }
+    ensures hold { (D.view door.new).hold ≡ piece_hold len result (D.view door.old).hold }
+    ensures fault { IsErrOf result FetchError.Fault → Rose (S.view source.old).faults (S.view source.new).faults }
+    ensures frame { result ≡ Ok false → Rose (D.view door.old).frame_faults (D.view door.new).frame_faults }
+    ensures turned { result ≡ Ok false → Rose (D.view door.old).work.turned_away (D.view door.new).work.turned_away }
+    ensures goes { Goes (read_setting A.tells A.blobs table.now setting.now) (fetched_bytes (piece_count len result)) (moment (S.view source.old) (D.view door.old)) (moment (S.view source.new) (D.view door.new)) }
+    ensures reads { IsTrue A.tells → Takes (S.view source.old).reads (S.view source.new).reads (slice_of (content_places A.blobs table.now.number file) at len) result }
+    ensures kept { SamePolicy (D.view door.old).state (D.view door.new).state }
+    ensures stored { result ≡ Ok true → IsTrue A.tells → Becomes (D.view door.old) (D.view door.new) (storing (slice_of (content A.blobs table.now.number file) at len)) }
 {
     let piece = fetch(alloc, source, table, file, at, len)?;
     Ok(door.store(&piece).is_ok())
@@ -71,22 +70,21 @@ fn fill<A: Archive, D: CacheDoor<A>, S: BlobSource<A>>(
     report: &mut Report,
 ) -> Result<bool, FetchError>
     requires file { file < length table.now.files }
-    requires held { (D.hold door.old).held ≡ true }
-    requires gap { ((D.hold door.old).upto ≡ gap.start) × ((D.hold door.old).gap_end ≡ gap.end) × (gap.start < gap.end) }
-    requires place { (manifest_of (D.hold door.old).tag ≡ table.now.number) × (file_of (D.hold door.old).tag ≡ file) × (base ≡ part_of (D.hold door.old).tag * (D.config door.old).region) }
+    requires held { (D.view door.old).hold.held ≡ true }
+    requires gap { ((D.view door.old).hold.upto ≡ gap.start) × ((D.view door.old).hold.gap_end ≡ gap.end) × (gap.start < gap.end) }
+    requires place { (manifest_of (D.view door.old).hold.tag ≡ table.now.number) × (file_of (D.view door.old).hold.tag ≡ file) × (base ≡ part_of (D.view door.old).hold.tag * (D.view door.old).config.region) }
     requires inside { base + gap.end ≤ file_length table.now file }
     ensures stays { D.stays door.old door.new }
-    ensures hold { (D.hold door.new).gap_end ≤ (D.hold door.new).upto }
-    ensures same_hold { SameHold (D.hold door.old) (D.hold door.new) }
-    ensures fault { IsErrOf result FetchError.Fault → Rose (S.faults source.old) (S.faults source.new) }
-    ensures frame { result ≡ Ok false → Rose (D.frame_faults door.old) (D.frame_faults door.new) }
-    ensures turned { result ≡ Ok false → Rose (D.work door.old).turned_away (D.work door.new).turned_away }
-    ensures same { S.which source.new ≡ S.which source.old }
-    ensures partly { Between (Partly (line A.tells A.blobs table.now setting.now) (gap.end - gap.start) report.old report.new) S.faults S.taken D.frame_faults D.seen_gone D.unmounted D.work D.state source.old source.new door.old door.new }
-    ensures whole { result ≡ Ok true → Between (Whole (line A.tells A.blobs table.now setting.now) (gap.end - gap.start) report.old report.new) S.faults S.taken D.frame_faults D.seen_gone D.unmounted D.work D.state source.old source.new door.old door.new }
-    ensures kept { SamePolicy (D.state door.old) (D.state door.new) }
-    ensures stored { result ≡ Ok true → IsTrue A.tells → (s : State) → D.state door.old ≡ Some s → D.state door.new ≡ Some (rest_stored (line A.tells A.blobs table.now setting.now) (D.actor door.old) file base gap.start gap.end s) }
-    ensures took { result ≡ Ok true → IsTrue A.tells → Took (S.taken source.old) (S.taken source.new) (slice_of (content_places A.blobs table.now.number file) (base + gap.start) (gap.end - gap.start)) }
+    ensures hold { (D.view door.new).hold.gap_end ≤ (D.view door.new).hold.upto }
+    ensures same_hold { SameHold (D.view door.old).hold (D.view door.new).hold }
+    ensures fault { IsErrOf result FetchError.Fault → Rose (S.view source.old).faults (S.view source.new).faults }
+    ensures frame { result ≡ Ok false → Rose (D.view door.old).frame_faults (D.view door.new).frame_faults }
+    ensures turned { result ≡ Ok false → Rose (D.view door.old).work.turned_away (D.view door.new).work.turned_away }
+    ensures partly { Partly (read_setting A.tells A.blobs table.now setting.now) (gap.end - gap.start) report.old report.new (moment (S.view source.old) (D.view door.old)) (moment (S.view source.new) (D.view door.new)) }
+    ensures whole { result ≡ Ok true → Whole (read_setting A.tells A.blobs table.now setting.now) (gap.end - gap.start) report.old report.new (moment (S.view source.old) (D.view door.old)) (moment (S.view source.new) (D.view door.new)) }
+    ensures kept { SamePolicy (D.view door.old).state (D.view door.new).state }
+    ensures stored { result ≡ Ok true → IsTrue A.tells → (s : State) → (D.view door.old).state ≡ Some s → (D.view door.new).state ≡ Some (rest_stored (read_setting A.tells A.blobs table.now setting.now) (D.view door.old).actor file base gap.start gap.end s) }
+    ensures took { result ≡ Ok true → IsTrue A.tells → Took (S.view source.old).reads (S.view source.new).reads (slice_of (content_places A.blobs table.now.number file) (base + gap.start) (gap.end - gap.start)) }
 {
     let _length = table.length(file);
     let mut at = gap.start;
@@ -124,22 +122,21 @@ pub(crate) fn fill_gap<A: Archive, D: CacheDoor<A>, S: BlobSource<A>>(
     report: &mut Report,
 ) -> Result<bool, FetchError>
     requires file { file < length table.now.files }
-    requires held { (D.hold door.old).held ≡ true }
-    requires gap { ((D.hold door.old).upto ≡ range_start gap) × ((D.hold door.old).gap_end ≡ range_end gap) }
+    requires held { (D.view door.old).hold.held ≡ true }
+    requires gap { ((D.view door.old).hold.upto ≡ range_start gap) × ((D.view door.old).hold.gap_end ≡ range_end gap) }
     requires some { IfSome gap (λ g. (g.start < g.end) × (base + g.end ≤ file_length table.now file)) }
-    requires place { (manifest_of (D.hold door.old).tag ≡ table.now.number) × (file_of (D.hold door.old).tag ≡ file) × (base ≡ part_of (D.hold door.old).tag * (D.config door.old).region) }
+    requires place { (manifest_of (D.view door.old).hold.tag ≡ table.now.number) × (file_of (D.view door.old).hold.tag ≡ file) × (base ≡ part_of (D.view door.old).hold.tag * (D.view door.old).config.region) }
     ensures stays { D.stays door.old door.new }
-    ensures hold { (D.hold door.new).gap_end ≤ (D.hold door.new).upto }
-    ensures same_hold { SameHold (D.hold door.old) (D.hold door.new) }
-    ensures fault { IsErrOf result FetchError.Fault → Rose (S.faults source.old) (S.faults source.new) }
-    ensures turned { result ≡ Ok false → Rose (D.work door.old).turned_away (D.work door.new).turned_away }
-    ensures same { S.which source.new ≡ S.which source.old }
-    ensures partly { Between (Partly (line A.tells A.blobs table.now setting.now) (range_end gap - range_start gap) report.old report.new) S.faults S.taken D.frame_faults D.seen_gone D.unmounted D.work D.state source.old source.new door.old door.new }
-    ensures whole { result ≡ Ok true → Between (Whole (line A.tells A.blobs table.now setting.now) (range_end gap - range_start gap) report.old report.new) S.faults S.taken D.frame_faults D.seen_gone D.unmounted D.work D.state source.old source.new door.old door.new }
-    ensures frame { result ≡ Ok false → Rose (D.frame_faults door.old) (D.frame_faults door.new) }
-    ensures kept { SamePolicy (D.state door.old) (D.state door.new) }
-    ensures stored { result ≡ Ok true → IsTrue A.tells → (s : State) → D.state door.old ≡ Some s → D.state door.new ≡ Some (gap_stored (line A.tells A.blobs table.now setting.now) (D.actor door.old) file base gap s) }
-    ensures took { result ≡ Ok true → IsTrue A.tells → Took (S.taken source.old) (S.taken source.new) (slice_of (content_places A.blobs table.now.number file) (base + range_start gap) (range_end gap - range_start gap)) }
+    ensures hold { (D.view door.new).hold.gap_end ≤ (D.view door.new).hold.upto }
+    ensures same_hold { SameHold (D.view door.old).hold (D.view door.new).hold }
+    ensures fault { IsErrOf result FetchError.Fault → Rose (S.view source.old).faults (S.view source.new).faults }
+    ensures turned { result ≡ Ok false → Rose (D.view door.old).work.turned_away (D.view door.new).work.turned_away }
+    ensures partly { Partly (read_setting A.tells A.blobs table.now setting.now) (range_end gap - range_start gap) report.old report.new (moment (S.view source.old) (D.view door.old)) (moment (S.view source.new) (D.view door.new)) }
+    ensures whole { result ≡ Ok true → Whole (read_setting A.tells A.blobs table.now setting.now) (range_end gap - range_start gap) report.old report.new (moment (S.view source.old) (D.view door.old)) (moment (S.view source.new) (D.view door.new)) }
+    ensures frame { result ≡ Ok false → Rose (D.view door.old).frame_faults (D.view door.new).frame_faults }
+    ensures kept { SamePolicy (D.view door.old).state (D.view door.new).state }
+    ensures stored { result ≡ Ok true → IsTrue A.tells → (s : State) → (D.view door.old).state ≡ Some s → (D.view door.new).state ≡ Some (gap_stored (read_setting A.tells A.blobs table.now setting.now) (D.view door.old).actor file base gap s) }
+    ensures took { result ≡ Ok true → IsTrue A.tells → Took (S.view source.old).reads (S.view source.new).reads (slice_of (content_places A.blobs table.now.number file) (base + range_start gap) (range_end gap - range_start gap)) }
 {
     match gap {
         Some(gap) => fill(alloc, door, source, table, file, base, gap, setting, report),

@@ -1,19 +1,19 @@
 // A part whose region is held: filled, copied, and given back; or read past the cache.
-ghost use Rattle.std.specs.Prelude.{option_map, ◌≡◌, ◌≢◌, ◌<◌, ◌≤◌, ◌+◌, ◌-◌, ◌*◌, ℕ, true, false, Some, Ok, Err, IsTrue, OnOk, IsErr, IsErrOf, IfSome, length};
+ghost use Rattle.std.specs.Prelude.{◌≡◌, ◌≢◌, ◌<◌, ◌≤◌, ◌+◌, ◌-◌, ◌*◌, ℕ, true, false, Some, Ok, Err, IsTrue, OnOk, IsErr, IsErrOf, IfSome, length};
 ghost use Rattle.region_cell.specs.Cells.{region_bytes};
 ghost use Rattle.cache_outside.specs.Causes.{Rose};
 ghost use Rattle.blob_parts.specs.Content.{content, content_places, slice_of};
 ghost use Rattle.blob_parts.specs.Tables.{file_length};
-ghost use Rattle.blob_parts.specs.Takes.{Takes, Took};
+ghost use Rattle.blob_parts.specs.Takes.{SourceLater, Takes, Took};
 ghost use Rattle.region_ranges.specs.Keys.{manifest_of};
 ghost use Rattle.region_cell.specs.Cells.{file_of, part_of};
-ghost use Rattle.cache_door.specs.Doors.{Grown, range_start, range_end, nothing};
+ghost use Rattle.cache_door.specs.Doors.{AsHeld, Becomes, leaving, range_start, range_end, nothing};
 ghost use Rattle.cache_door.specs.Machine.{State, leave, hold_at};
 ghost use Rattle.cache_reader.specs.Reports.{no_bytes, direct_bytes, Counted};
 ghost use Rattle.cache_reader.specs.Bounds.{Worked};
-ghost use Rattle.cache_reader.specs.Parts.{line};
-ghost use Rattle.cache_reader.specs.Going.{Between, is_memory};
-ghost use Rattle.cache_reader.specs.Filling.{Partly, Whole, PartGoes, is_answered};
+ghost use Rattle.cache_reader.specs.Parts.{read_setting};
+ghost use Rattle.cache_reader.specs.Going.{moment, is_memory};
+ghost use Rattle.cache_reader.specs.Filling.{Partly, Whole, PartGoes, is_answered, given};
 ghost use Rattle.cache_reader.specs.Stored.{gap_stored};
 ghost use Rattle.cache_reader.specs.Holds.{Unfailed};
 ghost use Rattle.cache_reader.specs.Alone.{HeldExactly, SamePolicy, Copies};
@@ -30,19 +30,17 @@ use std::alloc::Global;
 
 /// Copies what is held, and gives the hold back. False: the door turned the caller away.
 fn copy_held<A: Archive, D: CacheDoor<A>>(door: &mut D, out: &mut [u8]) -> bool
-    requires held { (D.hold door.old).held ≡ true }
-    requires closed { (D.hold door.old).gap_end ≤ (D.hold door.old).upto }
-    requires len { length out.old ≡ (D.hold door.old).sub.end - (D.hold door.old).sub.start }
+    requires held { (D.view door.old).hold.held ≡ true }
+    requires closed { (D.view door.old).hold.gap_end ≤ (D.view door.old).hold.upto }
+    requires len { length out.old ≡ (D.view door.old).hold.sub.end - (D.view door.old).hold.sub.start }
     ensures stays { D.stays door.old door.new }
-    ensures hold { D.hold door.new ≡ nothing }
-    ensures bytes { IsTrue A.tells → IsTrue (D.frames_tell door.old) → IsTrue result → out.new ≡ slice_of (region_bytes (content A.blobs) (D.config door.old).region (D.hold door.old).tag) (D.hold door.old).sub.start ((D.hold door.old).sub.end - (D.hold door.old).sub.start) }
-    ensures frames { D.frame_faults door.old ≤ D.frame_faults door.new }
-    ensures seen { Grown (D.seen_gone door.old) (D.seen_gone door.new) }
-    ensures unmounted { D.unmounted door.new ≡ D.unmounted door.old }
-    ensures work { Worked no_bytes (D.work door.old) (D.work door.new) }
-    ensures turned { result ≡ false → Rose (D.work door.old).turned_away (D.work door.new).turned_away }
-    ensures left { D.state door.new ≡ option_map (λ s. leave (D.actor door.old) (hold_at s (D.actor door.old)) s) (D.state door.old) }
-    ensures copies { IfSome (D.state door.old) (Copies (D.actor door.old) (D.frame_faults door.old) (D.frame_faults door.new) result) }
+    ensures hold { (D.view door.new).hold ≡ nothing }
+    ensures bytes { IsTrue result → AsHeld A.tells (content A.blobs) (D.view door.old) out.new }
+    ensures unmounted { (D.view door.new).unmounted ≡ (D.view door.old).unmounted }
+    ensures work { Worked no_bytes (D.view door.old).work (D.view door.new).work }
+    ensures turned { result ≡ false → Rose (D.view door.old).work.turned_away (D.view door.new).work.turned_away }
+    ensures left { Becomes (D.view door.old) (D.view door.new) leaving }
+    ensures copies { IfSome (D.view door.old).state (Copies (D.view door.old).actor (D.view door.old).frame_faults (D.view door.new).frame_faults result) }
 {
     let taken = door.take_bytes(out);
     door.leave();
@@ -68,23 +66,22 @@ fn read_held<A: Archive, D: CacheDoor<A>, S: BlobSource<A>>(
     report: &mut Report,
 ) -> Result<bool, FetchError>
     requires file { file < length table.now.files }
-    requires held { (D.hold door.old).held ≡ true }
-    requires gap { ((D.hold door.old).upto ≡ range_start gap) × ((D.hold door.old).gap_end ≡ range_end gap) }
+    requires held { (D.view door.old).hold.held ≡ true }
+    requires gap { ((D.view door.old).hold.upto ≡ range_start gap) × ((D.view door.old).hold.gap_end ≡ range_end gap) }
     requires some { IfSome gap (λ g. (g.start < g.end) × (base + g.end ≤ file_length table.now file)) }
-    requires place { (manifest_of (D.hold door.old).tag ≡ table.now.number) × (file_of (D.hold door.old).tag ≡ file) × (base ≡ part_of (D.hold door.old).tag * (D.config door.old).region) }
-    requires len { length out.old ≡ (D.hold door.old).sub.end - (D.hold door.old).sub.start }
+    requires place { (manifest_of (D.view door.old).hold.tag ≡ table.now.number) × (file_of (D.view door.old).hold.tag ≡ file) × (base ≡ part_of (D.view door.old).hold.tag * (D.view door.old).config.region) }
+    requires len { length out.old ≡ (D.view door.old).hold.sub.end - (D.view door.old).hold.sub.start }
     ensures stays { D.stays door.old door.new }
-    ensures hold { D.hold door.new ≡ nothing }
-    ensures bytes { IsTrue A.tells → IsTrue (D.frames_tell door.old) → result ≡ Ok true → out.new ≡ slice_of (region_bytes (content A.blobs) (D.config door.old).region (D.hold door.old).tag) (D.hold door.old).sub.start ((D.hold door.old).sub.end - (D.hold door.old).sub.start) }
-    ensures fault { IsErrOf result FetchError.Fault → Rose (S.faults source.old) (S.faults source.new) }
-    ensures turned { result ≡ Ok false → Rose (D.work door.old).turned_away (D.work door.new).turned_away }
-    ensures same { S.which source.new ≡ S.which source.old }
-    ensures partly { Between (Partly (line A.tells A.blobs table.now setting.now) (range_end gap - range_start gap) report.old report.new) S.faults S.taken D.frame_faults D.seen_gone D.unmounted D.work D.state source.old source.new door.old door.new }
-    ensures whole { result ≡ Ok true → Between (Whole (line A.tells A.blobs table.now setting.now) (range_end gap - range_start gap) report.old report.new) S.faults S.taken D.frame_faults D.seen_gone D.unmounted D.work D.state source.old source.new door.old door.new }
-    ensures kept { SamePolicy (D.state door.old) (D.state door.new) }
-    ensures stored { result ≡ Ok true → IsTrue A.tells → (s : State) → D.state door.old ≡ Some s → let t = gap_stored (line A.tells A.blobs table.now setting.now) (D.actor door.old) file base gap s in D.state door.new ≡ Some (leave (D.actor door.old) (hold_at t (D.actor door.old)) t) }
-    ensures took { result ≡ Ok true → IsTrue A.tells → Took (S.taken source.old) (S.taken source.new) (slice_of (content_places A.blobs table.now.number file) (base + range_start gap) (range_end gap - range_start gap)) }
-    ensures copies { IsTrue A.tells → (s : State) → D.state door.old ≡ Some s → length s.holds ≡ 1 → Unfailed (D.actor door.old) s → (Rose (D.frame_faults door.old) (D.frame_faults door.new) → ⊥) → result ≢ Ok false }
+    ensures hold { (D.view door.new).hold ≡ nothing }
+    ensures bytes { result ≡ Ok true → AsHeld A.tells (content A.blobs) (D.view door.old) out.new }
+    ensures fault { IsErrOf result FetchError.Fault → Rose (S.view source.old).faults (S.view source.new).faults }
+    ensures turned { result ≡ Ok false → Rose (D.view door.old).work.turned_away (D.view door.new).work.turned_away }
+    ensures partly { Partly (read_setting A.tells A.blobs table.now setting.now) (range_end gap - range_start gap) report.old report.new (moment (S.view source.old) (D.view door.old)) (moment (S.view source.new) (D.view door.new)) }
+    ensures whole { result ≡ Ok true → Whole (read_setting A.tells A.blobs table.now setting.now) (range_end gap - range_start gap) report.old report.new (moment (S.view source.old) (D.view door.old)) (moment (S.view source.new) (D.view door.new)) }
+    ensures kept { SamePolicy (D.view door.old).state (D.view door.new).state }
+    ensures stored { result ≡ Ok true → IsTrue A.tells → (s : State) → (D.view door.old).state ≡ Some s → let t = gap_stored (read_setting A.tells A.blobs table.now setting.now) (D.view door.old).actor file base gap s in (D.view door.new).state ≡ Some (leave (D.view door.old).actor (hold_at t (D.view door.old).actor) t) }
+    ensures took { result ≡ Ok true → IsTrue A.tells → Took (S.view source.old).reads (S.view source.new).reads (slice_of (content_places A.blobs table.now.number file) (base + range_start gap) (range_end gap - range_start gap)) }
+    ensures copies { IsTrue A.tells → (s : State) → (D.view door.old).state ≡ Some s → length s.holds ≡ 1 → Unfailed (D.view door.old).actor s → (Rose (D.view door.old).frame_faults (D.view door.new).frame_faults → ⊥) → result ≢ Ok false }
 {
     match fill_gap(alloc, door, source, table, file, base, gap, setting, report) {
         Ok(true) => {
@@ -114,13 +111,11 @@ pub(crate) fn direct<A: Archive, S: BlobSource<A>>(
     requires file { file < length table.now.files }
     requires inside { at + length out.old ≤ file_length table.now file }
     ensures bytes { IsTrue A.tells → OnOk result (out.new ≡ slice_of (content A.blobs table.now.number file) at (length out.old)) }
-    ensures later { S.faults source.old ≤ S.faults source.new }
-    ensures cause { IsErrOf result BytesError.Fault → Rose (S.faults source.old) (S.faults source.new) }
-    ensures same { S.which source.new ≡ S.which source.old }
+    ensures source { SourceLater (S.view source.old) (S.view source.new) (IsErrOf result BytesError.Fault) }
     ensures present { (m : ℕ) → result ≢ Err (BytesError.Gone m) }
     ensures report { OnOk result (Counted report.old report.new (direct_bytes (length out.old))) }
     ensures unreported { IsErr result → report.new ≡ report.old }
-    ensures taken { IsTrue A.tells → Takes (S.taken source.old) (S.taken source.new) (slice_of (content_places A.blobs table.now.number file) at (length out.old)) result }
+    ensures reads { IsTrue A.tells → Takes (S.view source.old).reads (S.view source.new).reads (slice_of (content_places A.blobs table.now.number file) at (length out.old)) result }
 {
     match read_into(source, table, file, at, out) {
         Ok(()) => {
@@ -148,23 +143,22 @@ pub(crate) fn read_entered<A: Archive, D: CacheDoor<A>, S: BlobSource<A>>(
     report: &mut Report,
 ) -> Result<bool, BytesError>
     requires file { file < length table.now.files }
-    requires held { (D.hold door.old).held ≡ true }
-    requires gap { ((D.hold door.old).upto ≡ range_start gap) × ((D.hold door.old).gap_end ≡ range_end gap) }
+    requires held { (D.view door.old).hold.held ≡ true }
+    requires gap { ((D.view door.old).hold.upto ≡ range_start gap) × ((D.view door.old).hold.gap_end ≡ range_end gap) }
     requires some { IfSome gap (λ g. (g.start < g.end) × (base + g.end ≤ file_length table.now file)) }
-    requires place { (manifest_of (D.hold door.old).tag ≡ table.now.number) × (file_of (D.hold door.old).tag ≡ file) × (base ≡ part_of (D.hold door.old).tag * (D.config door.old).region) }
+    requires place { (manifest_of (D.view door.old).hold.tag ≡ table.now.number) × (file_of (D.view door.old).hold.tag ≡ file) × (base ≡ part_of (D.view door.old).hold.tag * (D.view door.old).config.region) }
     requires small { range_end gap - range_start gap ≤ setting.now.config.range }
-    requires part { (length out.old ≡ (D.hold door.old).sub.end - (D.hold door.old).sub.start) × ((D.hold door.old).sub.start < (D.hold door.old).sub.end) × ((D.hold door.old).sub.end ≤ (D.config door.old).region) × (length out.old ≤ setting.now.config.range) }
-    requires at { at ≡ base + (D.hold door.old).sub.start }
-    requires inside { base + (D.hold door.old).sub.end ≤ file_length table.now file }
+    requires part { (length out.old ≡ (D.view door.old).hold.sub.end - (D.view door.old).hold.sub.start) × ((D.view door.old).hold.sub.start < (D.view door.old).hold.sub.end) × ((D.view door.old).hold.sub.end ≤ (D.view door.old).config.region) × (length out.old ≤ setting.now.config.range) }
+    requires at { at ≡ base + (D.view door.old).hold.sub.start }
+    requires inside { base + (D.view door.old).hold.sub.end ≤ file_length table.now file }
     ensures stays { D.stays door.old door.new }
-    ensures hold { D.hold door.new ≡ nothing }
-    ensures same { S.which source.new ≡ S.which source.old }
-    ensures cause { IsErrOf result BytesError.Fault → Rose (S.faults source.old) (S.faults source.new) }
+    ensures hold { (D.view door.new).hold ≡ nothing }
+    ensures cause { IsErrOf result BytesError.Fault → Rose (S.view source.old).faults (S.view source.new).faults }
     ensures present { (m : ℕ) → result ≢ Err (BytesError.Gone m) }
-    ensures bytes { IsTrue A.tells → IsTrue (D.frames_tell door.old) → OnOk result (out.new ≡ slice_of (content A.blobs table.now.number file) at (length out.old)) }
-    ensures part { Between (PartGoes (line A.tells A.blobs table.now setting.now) (length out.old) (is_answered result) (is_memory result) report.old report.new) S.faults S.taken D.frame_faults D.seen_gone D.unmounted D.work D.state source.old source.new door.old door.new }
-    ensures kept { SamePolicy (D.state door.old) (D.state door.new) }
-    ensures exact { Between (HeldExactly (line A.tells A.blobs table.now setting.now) (D.actor door.old) file base gap (is_memory result) report.old report.new) S.faults S.taken D.frame_faults D.seen_gone D.unmounted D.work D.state source.old source.new door.old door.new }
+    ensures bytes { IsTrue A.tells → IsTrue (D.view door.old).frames_tell → OnOk result (out.new ≡ slice_of (content A.blobs table.now.number file) at (length out.old)) }
+    ensures part { PartGoes (read_setting A.tells A.blobs table.now setting.now) (given (is_answered result) (length out.old)) (is_memory result) report.old report.new (moment (S.view source.old) (D.view door.old)) (moment (S.view source.new) (D.view door.new)) }
+    ensures kept { SamePolicy (D.view door.old).state (D.view door.new).state }
+    ensures exact { HeldExactly (read_setting A.tells A.blobs table.now setting.now) (D.view door.old).actor file base gap (is_memory result) report.old report.new (moment (S.view source.old) (D.view door.old)) (moment (S.view source.new) (D.view door.new)) }
 {
     match read_held(
         alloc, door, source, table, file, base, gap, setting, out, report,

@@ -7,8 +7,6 @@ mod part;
 mod parts;
 mod reader;
 mod report;
-#[cfg(test)]
-mod tests;
 
-pub use reader::Reader;
+pub use reader::{Reader, Seen};
 pub use report::Report;

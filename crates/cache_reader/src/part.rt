@@ -1,20 +1,21 @@
 // One part of a file, read through a door: it lies in one region and in one of the region's ranges.
 ghost use Rattle.std.specs.Option.{ForSome};
-ghost use Rattle.std.specs.Prelude.{◌≡◌, ◌<◌, ◌≤◌, ◌-◌, ◌/◌, Some, IsTrue, OnOk, length};
+ghost use Rattle.std.specs.Prelude.{◌≡◌, ◌<◌, ◌≤◌, ◌-◌, ◌/◌, Some, false, [], ◌∷◌, IsTrue, OnOk, length};
 ghost use Rattle.region_ranges.specs.Keys.{tag_of, IsConfig};
 ghost use Rattle.region_cell.specs.Cells.{region_bytes};
 ghost use Rattle.blob_parts.specs.Content.{content, slice_of};
 ghost use Rattle.blob_parts.specs.Tables.{file_length};
-ghost use Rattle.cache_door.specs.Doors.{IsWant, HasLength, Grown, nothing};
+ghost use Rattle.cache_door.specs.Doors.{IsWant, HasLength, AsWanted, nothing};
 ghost use Rattle.cache_door.specs.Machine.{State};
+ghost use Rattle.cache_reader.specs.Reader.{files_seen};
 ghost use Rattle.directory_input.specs.Causes.{IsCaused, refusal};
 ghost use Rattle.cache_reader.specs.Reports.{no_bytes};
 ghost use Rattle.cache_reader.specs.Bounds.{Worked};
-ghost use Rattle.cache_reader.specs.Parts.{line};
-ghost use Rattle.cache_reader.specs.Going.{Between, is_memory};
-ghost use Rattle.cache_reader.specs.Filling.{PartGoes, is_answered};
+ghost use Rattle.cache_reader.specs.Parts.{read_setting};
+ghost use Rattle.cache_reader.specs.Going.{moment, is_memory};
+ghost use Rattle.cache_reader.specs.Filling.{PartGoes, is_answered, given};
 ghost use Rattle.cache_door.specs.Takes.{want_of};
-ghost use Rattle.cache_reader.specs.Alone.{went_part, Exactly, LastFits, Looked};
+ghost use Rattle.cache_reader.specs.Alone.{part_outcome, in_file, Calmly, ByEntries, LastFits, Looked};
 
 use crate::Report;
 use crate::held::{direct, read_entered};
@@ -77,20 +78,18 @@ fn glance_last<A: Archive, D: CacheDoor<A>>(
     want: &Want,
     out: &mut [u8],
 ) -> bool
-    requires free { D.hold door.old ≡ nothing }
-    requires reach { ForSome last.now (λ l. l.region < (D.config door.old).regions) }
-    requires want { IsWant (D.config door.old) want.now }
-    requires whole { IsTrue A.tells → HasLength (content A.blobs) (D.config door.old) want.now }
+    requires free { (D.view door.old).hold ≡ nothing }
+    requires reach { ForSome last.now (λ l. l.region < (D.view door.old).config.regions) }
+    requires want { IsWant (D.view door.old).config want.now }
+    requires whole { IsTrue A.tells → HasLength (content A.blobs) (D.view door.old).config want.now }
     requires len { length out.old ≡ want.now.sub.end - want.now.sub.start }
     ensures stays { D.stays door.old door.new }
-    ensures hold { D.hold door.new ≡ nothing }
-    ensures bytes { IsTrue A.tells → IsTrue (D.frames_tell door.old) → IsTrue result → out.new ≡ slice_of (region_bytes (content A.blobs) (D.config door.old).region (tag_of want.now.key)) want.now.sub.start (want.now.sub.end - want.now.sub.start) }
-    ensures frames { D.frame_faults door.old ≤ D.frame_faults door.new }
-    ensures seen { Grown (D.seen_gone door.old) (D.seen_gone door.new) }
-    ensures unmounted { D.unmounted door.new ≡ D.unmounted door.old }
-    ensures work { Worked no_bytes (D.work door.old) (D.work door.new) }
-    ensures same { D.state door.new ≡ D.state door.old }
-    ensures looked { IsTrue result → (s : State) → D.state door.old ≡ Some s → Looked last.now want.now s }
+    ensures hold { (D.view door.new).hold ≡ nothing }
+    ensures bytes { IsTrue result → AsWanted A.tells (content A.blobs) (D.view door.old) want.now out.new }
+    ensures unmounted { (D.view door.new).unmounted ≡ (D.view door.old).unmounted }
+    ensures work { Worked no_bytes (D.view door.old).work (D.view door.new).work }
+    ensures same { (D.view door.new).state ≡ (D.view door.old).state }
+    ensures looked { IsTrue result → (s : State) → (D.view door.old).state ≡ Some s → Looked last.now want.now s }
 {
     match last {
         Some(last) if last.key == want.key => matches!(
@@ -115,8 +114,8 @@ fn enter_part<A: Archive, D: CacheDoor<A>, S: BlobSource<A>>(
     out: &mut [u8],
     report: &mut Report,
 ) -> Result<(), BytesError>
-    requires free { D.hold door.old ≡ nothing }
-    requires own { D.config door.old ≡ setting.now.config }
+    requires free { (D.view door.old).hold ≡ nothing }
+    requires own { (D.view door.old).config ≡ setting.now.config }
     requires limits { IsConfig setting.now.config }
     requires below { setting.now.mount < 4096 }
     requires file { file < length table.now.files }
@@ -126,14 +125,13 @@ fn enter_part<A: Archive, D: CacheDoor<A>, S: BlobSource<A>>(
     requires wanted { IsWant setting.now.config want.now }
     requires whole { IsTrue A.tells → HasLength (content A.blobs) setting.now.config want.now }
     ensures stays { D.stays door.old door.new }
-    ensures hold { D.hold door.new ≡ nothing }
+    ensures hold { (D.view door.new).hold ≡ nothing }
     ensures reach { ForSome last.new (λ l. l.region < setting.now.config.regions) }
-    ensures same { S.which source.new ≡ S.which source.old }
-    ensures cause { IsCaused (S.faults source.old) (S.faults source.new) setting.now.mount (D.seen_gone door.new setting.now.mount) (refusal result) }
-    ensures bytes { IsTrue A.tells → IsTrue (D.frames_tell door.old) → OnOk result (out.new ≡ slice_of (content A.blobs table.now.number file) part.start (length out.old)) }
-    ensures part { Between (PartGoes (line A.tells A.blobs table.now setting.now) (part.end - part.start) (is_answered result) (is_memory result) report.old report.new) S.faults S.taken D.frame_faults D.seen_gone D.unmounted D.work D.state source.old source.new door.old door.new }
-    ensures fits { LastFits setting.now.mount setting.now.time last.new (D.state door.new) }
-    ensures exact { Between (Exactly (line A.tells A.blobs table.now setting.now) (went_part (line A.tells A.blobs table.now setting.now) (D.actor door.old) file part) (is_memory result) report.old report.new) S.faults S.taken D.frame_faults D.seen_gone D.unmounted D.work D.state source.old source.new door.old door.new }
+    ensures cause { IsCaused (files_seen (read_setting A.tells A.blobs table.now setting.now) (moment (S.view source.old) (D.view door.old)) false) (files_seen (read_setting A.tells A.blobs table.now setting.now) (moment (S.view source.new) (D.view door.new)) false) (refusal result) }
+    ensures bytes { IsTrue A.tells → IsTrue (D.view door.old).frames_tell → OnOk result (out.new ≡ slice_of (content A.blobs table.now.number file) part.start (length out.old)) }
+    ensures part { PartGoes (read_setting A.tells A.blobs table.now setting.now) (given (is_answered result) (part.end - part.start)) (is_memory result) report.old report.new (moment (S.view source.old) (D.view door.old)) (moment (S.view source.new) (D.view door.new)) }
+    ensures fits { LastFits setting.now.mount setting.now.time last.new (D.view door.new).state }
+    ensures outcome { Calmly (read_setting A.tells A.blobs table.now setting.now) (part_outcome (read_setting A.tells A.blobs table.now setting.now) (D.view door.old).actor file part) (is_memory result) report.old report.new (moment (S.view source.old) (D.view door.old)) (moment (S.view source.new) (D.view door.new)) }
 {
     let _length = table.length(file);
     door.lesson();
@@ -176,24 +174,23 @@ pub(crate) fn read_part<A: Archive, D: CacheDoor<A>, S: BlobSource<A>>(
     out: &mut [u8],
     report: &mut Report,
 ) -> Result<(), BytesError>
-    requires free { D.hold door.old ≡ nothing }
-    requires own { D.config door.old ≡ setting.now.config }
+    requires free { (D.view door.old).hold ≡ nothing }
+    requires own { (D.view door.old).config ≡ setting.now.config }
     requires limits { IsConfig setting.now.config }
     requires below { setting.now.mount < 4096 }
     requires file { file < length table.now.files }
     requires part { (part.start < part.end) × (part.end ≤ file_length table.now file) × (part.start / setting.now.config.range ≡ (part.end - 1) / setting.now.config.range) }
     requires len { length out.old ≡ part.end - part.start }
     requires reach { ForSome last.old (λ l. l.region < setting.now.config.regions) }
-    requires fits { LastFits setting.now.mount setting.now.time last.old (D.state door.old) }
+    requires fits { LastFits setting.now.mount setting.now.time last.old (D.view door.old).state }
     ensures stays { D.stays door.old door.new }
-    ensures hold { D.hold door.new ≡ nothing }
+    ensures hold { (D.view door.new).hold ≡ nothing }
     ensures reach { ForSome last.new (λ l. l.region < setting.now.config.regions) }
-    ensures same { S.which source.new ≡ S.which source.old }
-    ensures cause { IsCaused (S.faults source.old) (S.faults source.new) setting.now.mount (D.seen_gone door.new setting.now.mount) (refusal result) }
-    ensures bytes { IsTrue A.tells → IsTrue (D.frames_tell door.old) → OnOk result (out.new ≡ slice_of (content A.blobs table.now.number file) part.start (length out.old)) }
-    ensures part { Between (PartGoes (line A.tells A.blobs table.now setting.now) (part.end - part.start) (is_answered result) (is_memory result) report.old report.new) S.faults S.taken D.frame_faults D.seen_gone D.unmounted D.work D.state source.old source.new door.old door.new }
-    ensures fits { LastFits setting.now.mount setting.now.time last.new (D.state door.new) }
-    ensures exact { Between (Exactly (line A.tells A.blobs table.now setting.now) (went_part (line A.tells A.blobs table.now setting.now) (D.actor door.old) file part) (is_memory result) report.old report.new) S.faults S.taken D.frame_faults D.seen_gone D.unmounted D.work D.state source.old source.new door.old door.new }
+    ensures cause { IsCaused (files_seen (read_setting A.tells A.blobs table.now setting.now) (moment (S.view source.old) (D.view door.old)) false) (files_seen (read_setting A.tells A.blobs table.now setting.now) (moment (S.view source.new) (D.view door.new)) false) (refusal result) }
+    ensures bytes { IsTrue A.tells → IsTrue (D.view door.old).frames_tell → OnOk result (out.new ≡ slice_of (content A.blobs table.now.number file) part.start (length out.old)) }
+    ensures part { PartGoes (read_setting A.tells A.blobs table.now setting.now) (given (is_answered result) (part.end - part.start)) (is_memory result) report.old report.new (moment (S.view source.old) (D.view door.old)) (moment (S.view source.new) (D.view door.new)) }
+    ensures fits { LastFits setting.now.mount setting.now.time last.new (D.view door.new).state }
+    ensures entries { ByEntries (read_setting A.tells A.blobs table.now setting.now) (D.view door.old).actor (in_file file part ∷ []) (is_memory result) report.old report.new (moment (S.view source.old) (D.view door.old)) (moment (S.view source.new) (D.view door.new)) }
 {
     let _length = table.length(file);
     door.lesson();

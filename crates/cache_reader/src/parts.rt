@@ -1,15 +1,17 @@
 // The parts of a read, one after another.
 ghost use Rattle.std.specs.Option.{ForSome};
-ghost use Rattle.std.specs.Prelude.{◌≡◌, ◌<◌, ◌≤◌, ◌+◌, ◌-◌, ◌*◌, ◌/◌, min, IsTrue, OnOk, length};
+ghost use Rattle.std.specs.Prelude.{◌≡◌, ◌<◌, ◌≤◌, ◌+◌, ◌-◌, ◌*◌, ◌/◌, min, false, IsTrue, OnOk, IsOk, length, take, drop};
 ghost use Rattle.region_ranges.specs.Keys.{IsConfig};
 ghost use Rattle.blob_parts.specs.Content.{content, slice_of};
 ghost use Rattle.blob_parts.specs.Tables.{file_length};
 ghost use Rattle.cache_door.specs.Doors.{nothing};
+ghost use Rattle.cache_reader.specs.Reader.{files_seen};
 ghost use Rattle.directory_input.specs.Causes.{IsCaused, refusal};
-ghost use Rattle.cache_reader.specs.Parts.{line};
-ghost use Rattle.cache_reader.specs.Going.{Between, is_memory};
-ghost use Rattle.cache_reader.specs.Filling.{PartGoes, is_answered};
-ghost use Rattle.cache_reader.specs.Alone.{went_read, Exactly, LastFits};
+ghost use Rattle.cache_reader.specs.Reports.{no_bytes};
+ghost use Rattle.cache_reader.specs.Parts.{read_setting};
+ghost use Rattle.cache_reader.specs.Going.{moment, is_memory};
+ghost use Rattle.cache_reader.specs.Filling.{PartGoes};
+ghost use Rattle.cache_reader.specs.Alone.{read_outcome, parts_of, Exactly, ByEntries, LastFits};
 
 use crate::Report;
 use crate::part::{Last, Setting, read_part};
@@ -48,23 +50,29 @@ pub(crate) fn read_parts<A: Archive, D: CacheDoor<A>, S: BlobSource<A>>(
     out: &mut [u8],
     report: &mut Report,
 ) -> Result<(), BytesError>
-    requires free { D.hold door.old ≡ nothing }
-    requires own { D.config door.old ≡ setting.now.config }
+    requires free { (D.view door.old).hold ≡ nothing }
+    requires own { (D.view door.old).config ≡ setting.now.config }
     requires limits { IsConfig setting.now.config }
     requires below { setting.now.mount < 4096 }
     requires file { file < length table.now.files }
     requires inside { at + length out.old ≤ file_length table.now file }
+    requires fresh { report.old ≡ no_bytes }
     requires reach { ForSome last.old (λ l. l.region < setting.now.config.regions) }
-    requires fits { LastFits setting.now.mount setting.now.time last.old (D.state door.old) }
+    requires fits { LastFits setting.now.mount setting.now.time last.old (D.view door.old).state }
     ensures stays { D.stays door.old door.new }
-    ensures hold { D.hold door.new ≡ nothing }
+    ensures hold { (D.view door.new).hold ≡ nothing }
     ensures reach { ForSome last.new (λ l. l.region < setting.now.config.regions) }
-    ensures same { S.which source.new ≡ S.which source.old }
-    ensures cause { IsCaused (S.faults source.old) (S.faults source.new) setting.now.mount (D.seen_gone door.new setting.now.mount) (refusal result) }
-    ensures bytes { IsTrue A.tells → IsTrue (D.frames_tell door.old) → OnOk result (out.new ≡ slice_of (content A.blobs table.now.number file) at (length out.old)) }
-    ensures part { Between (PartGoes (line A.tells A.blobs table.now setting.now) (length out.old) (is_answered result) (is_memory result) report.old report.new) S.faults S.taken D.frame_faults D.seen_gone D.unmounted D.work D.state source.old source.new door.old door.new }
-    ensures fits { LastFits setting.now.mount setting.now.time last.new (D.state door.new) }
-    ensures exact { Between (Exactly (line A.tells A.blobs table.now setting.now) (went_read (line A.tells A.blobs table.now setting.now) (D.actor door.old) (record { file = file; at = at; size = length out.old })) (is_memory result) report.old report.new) S.faults S.taken D.frame_faults D.seen_gone D.unmounted D.work D.state source.old source.new door.old door.new }
+    ensures cause { IsCaused (files_seen (read_setting A.tells A.blobs table.now setting.now) (moment (S.view source.old) (D.view door.old)) false) (files_seen (read_setting A.tells A.blobs table.now setting.now) (moment (S.view source.new) (D.view door.new)) false) (refusal result) }
+    ensures bytes { IsTrue A.tells → IsTrue (D.view door.old).frames_tell → OnOk result (out.new ≡ slice_of (content A.blobs table.now.number file) at (length out.old)) }
+    ensures part { PartGoes (read_setting A.tells A.blobs table.now setting.now) (report.new.hit + report.new.direct) (is_memory result) report.old report.new (moment (S.view source.old) (D.view door.old)) (moment (S.view source.new) (D.view door.new)) }
+    ensures fits { LastFits setting.now.mount setting.now.time last.new (D.view door.new).state }
+    ensures exact { Exactly (read_setting A.tells A.blobs table.now setting.now) (read_outcome (read_setting A.tells A.blobs table.now setting.now) (D.view door.old).actor (record { file = file; at = at; size = length out.old })) (is_memory result) report.old report.new (moment (S.view source.old) (D.view door.old)) (moment (S.view source.new) (D.view door.new)) }
+    ensures entries { ByEntries (read_setting A.tells A.blobs table.now setting.now) (D.view door.old).actor (parts_of setting.now.config.range (record { file = file; at = at; size = length out.old })) (is_memory result) report.old report.new (moment (S.view source.old) (D.view door.old)) (moment (S.view source.new) (D.view door.new)) }
+    ensures reached { report.new.hit + report.new.direct ≤ length out.old }
+    ensures all { OnOk result (report.new.hit + report.new.direct ≡ length out.old) }
+    ensures filled { IsTrue A.tells → IsTrue (D.view door.old).frames_tell → take (report.new.hit + report.new.direct) out.new ≡ slice_of (content A.blobs table.now.number file) at (report.new.hit + report.new.direct) }
+    ensures untouched { drop (report.new.hit + report.new.direct + setting.now.config.range) out.new ≡ drop (report.new.hit + report.new.direct + setting.now.config.range) out.old }
+    ensures empty { length out.old ≡ 0 → IsOk result × (door.new ≡ door.old) × (source.new ≡ source.old) }
 {
     let _length = table.length(file);
     door.lesson();

@@ -1,5 +1,5 @@
 -- A slice of a slice.
-use Rattle.std.proofs.Common.{◌≡◌, ℕ, zero, suc, ◌≤◌, ◌+◌, ◌-◌, ◌∙◌, ap, arith, sym, refl, List, [], ◌∷◌, length, take, drop}
+use Rattle.std.proofs.Common.{◌≡◌, ℕ, zero, suc, ◌≤◌, ◌+◌, ◌-◌, ◌∙◌, ap, arith, sym, refl, List, [], ◌∷◌, take, drop}
 use Rattle.std.proofs.lemmas.List.{drop-take}
 use Rattle.directory_input.specs.Reads.{slice_of}
 

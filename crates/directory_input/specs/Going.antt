@@ -1,8 +1,9 @@
 -- Files in memory, from read to read.
-use Rattle.std.proofs.Common.{ℕ, ◌≡◌, ◌≤◌, ◌<◌, ◌+◌, ◌-◌, ◌^◌, nat_lt, ◌∙◌, ap, sym, subst, refl, Bool, true, false, if◌then◌else◌, List, [], ◌∷◌, ◌++◌}
+use Rattle.std.proofs.Common.{ℕ, ◌≡◌, ◌≤◌, ◌+◌, ◌-◌, ◌^◌, nat_lt, ◌∙◌, ap, sym, subst, refl, Bool, true, false, if◌then◌else◌, List, [], ◌∷◌, ◌++◌, length}
 use Rattle.std.proofs.Math.Nat.{le_refl, le_trans, le-add_right}
 use Rattle.directory_input.specs.Reads.{Read}
-use Rattle.directory_input.specs.Memory.{MemFiles, GoesBy, AreInFiles, after_reads, read_once, counted, is_listed}
+use Rattle.directory_input.specs.Files.{FilesLater}
+use Rattle.directory_input.specs.Memory.{MemFiles, GoesBy, files_of, file_bytes, AreInFiles, after_reads, read_once, counted, is_listed}
 
 after_more : (rs ss : List Read) (m : MemFiles) → after_reads (rs ++ ss) m ≡ after_reads ss (after_reads rs m)
 after_more [] ss m = refl
@@ -16,7 +17,7 @@ files_after : (rs : List Read) (m : MemFiles) → (after_reads rs m).files ≡ m
 files_after [] m = refl
 files_after (r ∷ rs) m = files_after rs (read_once m)
 
-pub same_files : (rs : List Read) (x y : MemFiles) → GoesBy rs x y → y.files ≡ x.files
+same_files : (rs : List Read) (x y : MemFiles) → GoesBy rs x y → y.files ≡ x.files
 same_files rs x y h = ap (λ (m : MemFiles). m.files) h.after ∙ files_after rs x
 
 pub no_reads : (x : MemFiles) → GoesBy [] x x
@@ -40,5 +41,14 @@ faults_after : (rs : List Read) (m : MemFiles) → m.faults ≤ (after_reads rs 
 faults_after [] m = le_refl m.faults
 faults_after (r ∷ rs) m = le_trans (not_fewer_faults m.faults (is_listed (counted m.reads) m.failing)) (faults_after rs (read_once m))
 
-pub faults_later : (rs : List Read) (x y : MemFiles) → GoesBy rs x y → x.faults ≤ y.faults
-faults_later rs x y h = subst (λ (m : MemFiles). x.faults ≤ m.faults) (sym h.after) (faults_after rs x)
+pub files_later : (rs : List Read) (x y : MemFiles) → GoesBy rs x y → FilesLater (files_of x) (files_of y)
+files_later rs x y h = let same = same_files rs x y h in record {
+  count = ap length same;
+  lengths = ap (λ fs f. length (file_bytes fs f)) same;
+  tells = refl;
+  bytes = ap file_bytes same;
+  mount = refl;
+  faults = subst (λ (m : MemFiles). x.faults ≤ m.faults) (sym h.after) (faults_after rs x);
+  gone = λ raised. raised;
+  memory = λ raised. raised;
+}

@@ -1,5 +1,6 @@
-pub mod Causes
 pub mod Reads
+pub mod Files
+pub mod Causes
 pub mod Windows
 pub mod Memory
 pub mod Going

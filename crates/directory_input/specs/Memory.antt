@@ -1,7 +1,8 @@
 -- Files in memory, some reads of which are to fail.
-use Rattle.std.specs.Prelude.{ℕ, ◌≡◌, ◌<◌, ◌≤◌, ◌+◌, ◌-◌, ◌^◌, ◌==◌, nat_lt, Bool, List, [], ◌∷◌, length, get_or, if◌then◌else◌}
+use Rattle.std.specs.Prelude.{ℕ, ◌≡◌, ◌<◌, ◌≤◌, ◌+◌, ◌-◌, ◌^◌, ◌==◌, nat_lt, Bool, true, false, List, [], ◌∷◌, length, get_or, if◌then◌else◌}
 use Rattle.std.specs.List.{list_any}
 use Rattle.directory_input.specs.Reads.{Read}
+use Rattle.directory_input.specs.Files.{FilesView}
 
 -- the files, the numbers of the reads that are to fail (from 1), how many reads there were, and how many failed
 pub record MemFiles : Type 0 where
@@ -19,6 +20,19 @@ is_listed n ns = list_any (λ k. k == n) ns
 
 abbrev pub file_bytes : List (List ℕ) → ℕ → List ℕ
 file_bytes files f = get_or files f []
+
+-- their bytes are told; they are never gone, and a read of them takes no memory
+abbrev pub files_of : MemFiles → FilesView
+files_of m = record {
+  count = length m.files;
+  lengths = λ f. length (file_bytes m.files f);
+  tells = true;
+  bytes = λ f. file_bytes m.files f;
+  mount = 0;
+  faults = m.faults;
+  gone = false;
+  out_of_memory = false;
+}
 
 -- the state after one read more
 abbrev pub read_once : MemFiles → MemFiles

@@ -1,5 +1,5 @@
 -- Reads of files.
-use Rattle.std.specs.Prelude.{ℕ, ◌≡◌, ◌≤◌, ◌+◌, List, [], ◌∷◌, length, take, drop}
+use Rattle.std.specs.Prelude.{ℕ, List, [], ◌∷◌, take, drop}
 
 -- a read: which file, from which place of it on, how many bytes
 pub record Read : Type 0 where

@@ -1,6 +1,7 @@
 -- An input is a window on one file, and a position in it.
-use Rattle.std.specs.Prelude.{ℕ, ◌≡◌, ◌<◌, ◌≤◌, ◌+◌, Bool, IsTrue, List, [], ◌∷◌, length, Option, Some, None, Result, Ok, Err}
+use Rattle.std.specs.Prelude.{ℕ, ◌≡◌, ◌<◌, ◌≤◌, ◌+◌, IsTrue, List, [], ◌∷◌, length, Option, Some, None, Result, Ok, Err}
 use Rattle.directory_input.specs.Reads.{Read, slice_of, one_read}
+use Rattle.directory_input.specs.Files.{FilesView}
 use Rattle.directory_input.specs.declared.files.BytesError.{BytesError}
 use Rattle.directory_input.specs.declared.input.InputError.{InputError}
 use Rattle.directory_input.specs.declared.input.InputError.TheVariants.{PastEnd, Bytes}
@@ -19,12 +20,11 @@ part_of w at size = record { file = w.file; start = w.start + at; size = size; p
 abbrev pub moved_to : ℕ → Window → Window
 moved_to at w = record { file = w.file; start = w.start; size = w.size; position = at }
 
--- a window fits files (their count, lengths and, where told, bytes) that have what it looks on; where the bytes are
--- told, that file has as many as its length
-pub record FitsFile (count : ℕ) (length_of : ℕ → ℕ) (tells : Bool) (bytes : ℕ → List ℕ) (w : Window) : Type 0 where
-  pub file : w.file < count
-  pub inside : w.start + w.size ≤ length_of w.file
-  pub told : IsTrue tells → length (bytes w.file) ≡ length_of w.file
+-- a window fits files that have what it looks on; where the bytes are told, its file has as many as its length
+pub record FitsFile (files : FilesView) (w : Window) : Type 0 where
+  pub file : w.file < files.count
+  pub inside : w.start + w.size ≤ files.lengths w.file
+  pub whole : IsTrue files.tells → length (files.bytes w.file) ≡ files.lengths w.file
 
 -- the bytes that a window looks on
 abbrev pub window_bytes : (ℕ → List ℕ) → Window → List ℕ

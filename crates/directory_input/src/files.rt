@@ -1,9 +1,8 @@
 // What gives the bytes of numbered files: a cache, an archive's blobs, or a list in memory.
-ghost use Rattle.std.specs.Prelude.{◌≡◌, ◌<◌, ◌≤◌, ◌+◌, ◌++◌, ℕ, List, [], Bool, IsTrue, OnOk, IsErrOf, length};
+ghost use Rattle.std.specs.Prelude.{◌≡◌, ◌<◌, ◌≤◌, ◌+◌, ◌++◌, List, [], IsTrue, OnOk, length};
 ghost use Rattle.directory_input.specs.Reads.{Read, one_read, slice_of};
-ghost use Rattle.directory_input.specs.Causes.{HasBytesCause, refusal};
-ghost use Rattle.directory_input.specs.declared.files.BytesError.{BytesError};
-ghost use Rattle.directory_input.specs.declared.files.BytesError.TheVariants.{NoMemory};
+ghost use Rattle.directory_input.specs.Files.{FilesView, FilesLater};
+ghost use Rattle.directory_input.specs.Causes.{HasReadCause, refusal};
 
 /// Why bytes were not given.
 #[derive(Clone, Copy, Debug, PartialEq, Eq)]
@@ -19,29 +18,10 @@ pub enum BytesError {
 /// The bytes of files that have the numbers from 0 on. Nothing that a caller does changes which files there are,
 /// their lengths or their bytes.
 pub trait FileBytes {
-    /// How many files there are.
-    ghost count: { Self → ℕ };
-
-    /// The length of each file in bytes.
-    ghost length_of: { Self → ℕ → ℕ };
-
-    /// Whether the bytes are told.
-    ghost tells: { Self → Bool };
-
-    /// The bytes of each file, which mean something where they are told.
-    ghost bytes: { Self → ℕ → List ℕ };
-
-    /// How many faults there were so far; stops at the last value of a u64.
-    ghost faults: { Self → ℕ };
-
-    /// The number of the mount whose files they are.
-    ghost mount: { Self → ℕ };
-
-    /// That mount was seen gone.
-    ghost gone: { Self → Bool };
-
-    /// A read was refused for want of memory.
-    ghost wanted: { Self → Bool };
+    /// What clauses see of the files: their number, lengths (in bytes) and, where they are told, bytes; the number of
+    /// the mount whose files they are; how many faults there were so far, a count that stops at the last value of a
+    /// u64; whether that mount was seen gone; and whether a read was refused for want of memory.
+    ghost view: { Self → FilesView };
 
     /// The later state comes from the earlier one of the same object by these reads, in this order. A type defines
     /// it by what its own `read` ensures, read after read: facts that add up over a list of reads, such as what was
@@ -50,51 +30,27 @@ pub trait FileBytes {
     /// a lender learns from it what became of the thing that was lent.
     ghost goes_by: { List Read → Self → Self → Type 0 };
 
-    /// The later state comes from the earlier one by some list of reads: `(reads : List Read) × goes_by reads x y`.
-    ghost goes_on: { Self → Self → Type 0 };
-
     /// The length of a file, in bytes.
     fn len(&self, file: u32) -> u64
-        requires { file < count self.now }
-        ensures length { result ≡ length_of self.now file }
-        ensures whole { IsTrue (tells self.now) → length (bytes self.now file) ≡ length_of self.now file };
+        requires { file < (view self.now).count }
+        ensures length { result ≡ (view self.now).lengths file }
+        ensures whole { IsTrue (view self.now).tells → length ((view self.now).bytes file) ≡ result };
 
     /// Fills `out` with the file's bytes from the place `at` on. After a refusal `out` may hold anything. `Fault`
-    /// comes only where the count of faults rose, and `Gone` only with the number of this mount, which was seen gone.
+    /// comes only where the count of faults rose, `Gone` only with the number of this mount, which was seen gone, and
+    /// `NoMemory` only where the mark for want of memory is raised.
     fn read(&mut self, file: u32, at: u64, out: &mut [u8]) -> Result<(), BytesError>
-        requires file { file < count self.old }
-        requires inside { at + length out.old ≤ length_of self.old file }
-        ensures told { IsTrue (tells self.old) → OnOk result (out.new ≡ slice_of at (length out.old) (bytes self.old file)) }
-        ensures reads { goes_by (one_read file at (length out.old)) self.old self.new }
-        ensures goes { goes_on self.old self.new }
-        ensures cause { HasBytesCause (faults self.old) (faults self.new) (mount self.old) (gone self.new) (wanted self.old) (wanted self.new) (refusal result) }
-        ensures wanted { IsErrOf result NoMemory → IsTrue (wanted self.new) };
+        requires file { file < (view self.old).count }
+        requires inside { at + length out.old ≤ (view self.old).lengths file }
+        ensures bytes { IsTrue (view self.old).tells
+            → OnOk result (out.new ≡ slice_of at (length out.old) ((view self.old).bytes file)) }
+        ensures goes { goes_by (one_read file at (length out.old)) self.old self.new }
+        ensures cause { HasReadCause (view self.old) (view self.new) (refusal result) };
 
     ghost by_none: { (x : Self) → goes_by [] x x };
 
     ghost by_more: { (rs ss : List Read) (x y z : Self) → goes_by rs x y → goes_by ss y z → goes_by (rs ++ ss) x z };
 
-    ghost by_some: { (rs : List Read) (x y : Self) → goes_by rs x y → goes_on x y };
-
-    ghost by_reads: { (x y : Self) → goes_on x y → (rs : List Read) × goes_by rs x y };
-
-    ghost stays: { (x : Self) → goes_on x x };
-
-    ghost joins: { (x y z : Self) → goes_on x y → goes_on y z → goes_on x z };
-
-    ghost same_count: { (x y : Self) → goes_on x y → count y ≡ count x };
-
-    ghost same_lengths: { (x y : Self) → goes_on x y → length_of y ≡ length_of x };
-
-    ghost same_tells: { (x y : Self) → goes_on x y → tells y ≡ tells x };
-
-    ghost same_bytes: { (x y : Self) → goes_on x y → bytes y ≡ bytes x };
-
-    ghost same_mount: { (x y : Self) → goes_on x y → mount y ≡ mount x };
-
-    ghost later: { (x y : Self) → goes_on x y → faults x ≤ faults y };
-
-    ghost gone_stays: { (x y : Self) → goes_on x y → IsTrue (gone x) → IsTrue (gone y) };
-
-    ghost wanted_stays: { (x y : Self) → goes_on x y → IsTrue (wanted x) → IsTrue (wanted y) };
+    /// No read changes the files, and none lowers a count or a mark.
+    ghost later: { (rs : List Read) (x y : Self) → goes_by rs x y → FilesLater (view x) (view y) };
 }

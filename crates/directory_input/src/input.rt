@@ -1,10 +1,9 @@
 // An input: a window on one file, and a position in it.
-ghost use Rattle.std.specs.Prelude.{◌≡◌, ◌<◌, ◌≤◌, ◌+◌, ℕ, List, Bool, IsTrue, OnOk, OnErr, IfOk, IfErr, IsErrOf, length};
+ghost use Rattle.std.specs.Prelude.{◌≡◌, ◌<◌, ◌≤◌, ◌+◌, ℕ, List, IsTrue, OnOk, OnErr, IfOk, IfErr, length};
 ghost use Rattle.directory_input.specs.Reads.{slice_of};
-ghost use Rattle.directory_input.specs.Causes.{HasBytesCause};
+ghost use Rattle.directory_input.specs.Files.{FilesView};
+ghost use Rattle.directory_input.specs.Causes.{HasReadCause};
 ghost use Rattle.directory_input.specs.Windows.{Window, FitsFile, part_of, moved_to, window_bytes, reads_of, input_refusal, IsPastEnd};
-ghost use Rattle.directory_input.specs.declared.files.BytesError.TheVariants.{NoMemory};
-ghost use Rattle.directory_input.specs.declared.input.InputError.TheVariants.{Bytes};
 
 use crate::{BytesError, FileBytes};
 use std::marker::Model;
@@ -41,9 +40,10 @@ impl Model for Input {
 impl Input {
     /// The whole file, at position 0.
     pub fn open<B: FileBytes>(bytes: &B, file: u32) -> Input
-        requires { file < B.count bytes.now }
-        ensures whole { result ≡ record { file = file; start = 0; size = B.length_of bytes.now file; position = 0 } }
-        ensures fits { FitsFile (B.count bytes.now) (B.length_of bytes.now) (B.tells bytes.now) (B.bytes bytes.now) result }
+        requires { file < (B.view bytes.now).count }
+        ensures whole { result
+            ≡ record { file = file; start = 0; size = (B.view bytes.now).lengths file; position = 0 } }
+        ensures fits { FitsFile (B.view bytes.now) result }
     {
         Input {
             file,
@@ -74,7 +74,7 @@ impl Input {
     pub fn slice(&self, at: u64, len: u64) -> Result<Input, InputError>
         ensures part { IfOk result (λ i. (at + len ≤ self.now.size) × (i ≡ part_of self.now at len)) }
         ensures past { IfErr result (λ e. (self.now.size < at + len) × (e ≡ InputError.PastEnd at self.now.size)) }
-        ensures fits { (count : ℕ) (length_of : ℕ → ℕ) (tells : Bool) (bytes : ℕ → List ℕ) → FitsFile count length_of tells bytes self.now → IfOk result (FitsFile count length_of tells bytes) }
+        ensures fits { (files : FilesView) → FitsFile files self.now → IfOk result (FitsFile files) }
     {
         if at > self.size || len > self.size - at {
             return Err(InputError::PastEnd { at, len: self.size });
@@ -105,16 +105,16 @@ impl Input {
     /// end of this input, and then nothing is read; else `bytes` is asked once, for these bytes alone. After any
     /// refusal the position is as before, and `out` may hold anything.
     pub fn read<B: FileBytes>(&mut self, bytes: &mut B, out: &mut [u8]) -> Result<(), InputError>
-        requires { FitsFile (B.count bytes.old) (B.length_of bytes.old) (B.tells bytes.old) (B.bytes bytes.old) self.old }
-        ensures told { IsTrue (B.tells bytes.old) → OnOk result (out.new ≡ slice_of self.old.position (length out.old) (window_bytes (B.bytes bytes.old) self.old)) }
-        ensures moved { OnOk result ((self.old.position + length out.old ≤ self.old.size) × (self.new ≡ moved_to (self.old.position + length out.old) self.old)) }
+        requires { FitsFile (B.view bytes.old) self.old }
+        ensures bytes { IsTrue (B.view bytes.old).tells → OnOk result (out.new
+            ≡ slice_of self.old.position (length out.old) (window_bytes (B.view bytes.old).bytes self.old)) }
+        ensures moved { OnOk result ((self.old.position + length out.old ≤ self.old.size)
+            × (self.new ≡ moved_to (self.old.position + length out.old) self.old)) }
         ensures past { IfErr result (IsPastEnd self.old.position (length out.old) self.old.size) }
         ensures stays { OnErr result (self.new ≡ self.old) }
-        ensures reads { B.goes_by (reads_of self.old (length out.old) result) bytes.old bytes.new }
-        ensures goes { B.goes_on bytes.old bytes.new }
-        ensures fits { FitsFile (B.count bytes.new) (B.length_of bytes.new) (B.tells bytes.new) (B.bytes bytes.new) self.new }
-        ensures cause { HasBytesCause (B.faults bytes.old) (B.faults bytes.new) (B.mount bytes.old) (B.gone bytes.new) (B.wanted bytes.old) (B.wanted bytes.new) (input_refusal result) }
-        ensures wanted { IsErrOf result (Bytes NoMemory) → IsTrue (B.wanted bytes.new) }
+        ensures goes { B.goes_by (reads_of self.old (length out.old) result) bytes.old bytes.new }
+        ensures fits { FitsFile (B.view bytes.new) self.new }
+        ensures cause { HasReadCause (B.view bytes.old) (B.view bytes.new) (input_refusal result) }
     {
         if out.len() as u64 > self.size - self.position {
             return Err(InputError::PastEnd {

@@ -32,7 +32,8 @@ impl Model for MemBytes {
 
     ghost Value = { MemFiles };
 
-    ghost view = { λ m. record { files = m.files.items; failing = m.failing.items; reads = m.reads; faults = m.faults } };
+    ghost view = { λ m.
+        record { files = m.files.items; failing = m.failing.items; reads = m.reads; faults = m.faults } };
 }
 
 fn is_failing(failing: &[u64], number: u64) -> bool
@@ -88,58 +89,18 @@ impl MemBytes {
 }
 
 impl FileBytes for MemBytes {
-    ghost use Rattle.directory_input.specs.Memory.{MemFiles, GoesBy, file_bytes};
-    ghost use Rattle.directory_input.specs.Reads.{Read};
-    ghost use Rattle.directory_input.specs.Going.{no_reads, more_reads, same_files, faults_later};
-    ghost use Rattle.std.proofs.Common.{rules, refl, ap};
+    ghost use Rattle.directory_input.specs.Memory.{GoesBy, files_of};
+    ghost use Rattle.directory_input.specs.Going.{no_reads, more_reads, files_later};
 
-    ghost count = { λ m. length m.files };
-
-    ghost length_of = { λ m f. length (file_bytes m.files f) };
-
-    ghost tells = { λ m. true };
-
-    ghost bytes = { λ m f. file_bytes m.files f };
-
-    ghost faults = { λ m. m.faults };
-
-    ghost mount = { λ m. 0 };
-
-    ghost gone = { λ m. false };
-
-    ghost wanted = { λ m. false };
+    ghost view = { λ m. files_of m };
 
     ghost goes_by = { λ rs x y. GoesBy rs x y };
-
-    ghost goes_on = { λ x y. (rs : List Read) × GoesBy rs x y };
 
     ghost by_none = { λ x. no_reads x };
 
     ghost by_more = { λ rs ss x y z h k. more_reads rs ss x y z h k };
 
-    ghost by_some = { λ rs x y h. (rs, h) };
-
-    ghost by_reads = { λ x y h. h };
-
-    ghost stays = { λ x. ([], no_reads x) };
-
-    ghost joins = { λ x y z h k. (h.0 ++ k.0, more_reads h.0 k.0 x y z h.1 k.1) };
-
-    ghost same_count = { λ x y h. ap length (same_files h.0 x y h.1) };
-
-    ghost same_lengths = { λ x y h. ap (λ fs f. length (file_bytes fs f)) (same_files h.0 x y h.1) };
-
-    ghost same_tells = { λ x y h. refl };
-
-    ghost same_bytes = { λ x y h. ap file_bytes (same_files h.0 x y h.1) };
-
-    ghost same_mount = { λ x y h. refl };
-
-    ghost later = { λ x y h. faults_later h.0 x y h.1 };
-
-    ghost gone_stays = { λ x y h k. k };
-
-    ghost wanted_stays = { λ x y h k. k };
+    ghost later = { λ rs x y h. files_later rs x y h };
 
     fn len(&self, file: u32) -> u64 {
         self.files[file as usize].bytes.len() as u64

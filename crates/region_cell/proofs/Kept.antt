@@ -15,7 +15,7 @@ use Rattle.sparse_tracker.specs.Places.{ClaimPlaces}
 use Rattle.cache_outside.specs.Frames.{put_at, bytes_at, SameOutside}
 use Rattle.blob_parts.specs.Content.{slice_of}
 use Rattle.blob_parts.specs.Pieces.{PieceView}
-use Rattle.region_cell.specs.Cells.{Region, FrameMetadata, CellMetadata, CellView, len_of, IsRanged, IsFilled, IsWhole, IsSized, IsKept, FitsGap, LiesInRange, claim, claim_run, progress, fail, leave, with_region, with_frame, file_of, part_of, region_bytes}
+use Rattle.region_cell.specs.Cells.{Region, FrameMetadata, CellMetadata, CellView, len_of, IsRanged, IsFilled, IsWhole, IsSized, IsKept, FitsGap, LiesInRange, claim, claim_run, progress, fail, leave, with_region, with_frame, file_of, part_of, region_bytes, TicketBytes, TicketContent}
 use Rattle.region_cell.proofs.Places.{length_change}
 use Rattle.region_cell.proofs.Ranged.{ranged_claim, ranged_progress, ranged_fail, ranged_leave}
 use Rattle.region_cell.proofs.Statuses.{Waits, Held, ready_is}
@@ -81,6 +81,10 @@ err_any (Err e) p = p
 pub ok_then : {T E : Type 0} {P Q : Type 0} (r : Result T E) → (P → Q) → OnOk r P → OnOk r Q
 ok_then (Ok v) f p = f p
 ok_then (Err e) f p = tt
+
+pub ok_under : {T E : Type 0} {P Q : Type 0} (r : Result T E) → (P → OnOk r Q) → OnOk r (P → Q)
+ok_under (Ok v) f = f
+ok_under (Err e) f = tt
 
 -- what a call with two answers makes of a tracker
 pub by_answer : {T E : Type 0} (r : Result T E) (x ok err : TrackerView) → OnOk r (x ≡ ok) → OnErr r (x ≡ err) → (x ≡ ok) ⊎ (x ≡ err)
@@ -185,16 +189,21 @@ module _ (told : Bool) (files : ℕ → ℕ → List ℕ) (c : CellView) (k : Is
 
 -- ---- a copy
 
-pub copied : (told : Bool) (files : ℕ → ℕ → List ℕ) (c : CellView) (k : IsKept told files c) (n len : ℕ) (sub : ByteRange) (out : List ℕ) → Waits c.metadata.range c.metadata.region n sub → Held n c.metadata.region.tracker Ready
-    → IfSome (ticket_of n c.metadata.region.tracker) (λ t. len ≡ t.end - t.start) → IsTrue told → IsTrue c.metadata.frame.tells → out ≡ bytes_at sub.start len c.bytes
-    → IfSome (ticket_of n c.metadata.region.tracker) (λ t. out ≡ slice_of (region_bytes files c.metadata.frame.size c.metadata.region.tag) t.start (t.end - t.start))
-copied told files c k n len sub out w s l h m e =
-    let one : Some w.ticket ≡ Some s.ticket = sym w.is ∙ s.is in
-    let same : w.ticket ≡ s.ticket = cc in
-    let ready = ready_is s.ticket c.metadata.region.tracker s.state in
-    let all : has_all (record { start = w.ticket.start; end = w.ticket.end }) c.metadata.region.tracker ≡ true = ap (λ (t : Ticket). has_all (record { start = t.start; end = t.end }) c.metadata.region.tracker) same ∙ ready in
-    let wide : len ≡ w.ticket.end - w.ticket.start = rw w.is at l in
-    let f = read_kept told files c k (record { start = w.ticket.start; end = w.ticket.end }) (omega (arith, w.some, w.begins, w.ends)) (omega (arith, w.most, w.ends)) all h m in
-    let here : out ≡ slice_of (region_bytes files c.metadata.frame.size c.metadata.region.tag) w.ticket.start (w.ticket.end - w.ticket.start) =
-    e ∙ ap (λ (a : ℕ). bytes_at a len c.bytes) (sym w.begins) ∙ ap (λ (a : ℕ). bytes_at w.ticket.start a c.bytes) wide ∙ f in
-    rw w.is here
+-- a ticket that is ready, and the bytes that the frame gave for it
+module _ (told : Bool) (files : ℕ → ℕ → List ℕ) (c : CellView) (k : IsKept told files c) (n len : ℕ) (sub : ByteRange) (out : List ℕ) (w : Waits c.metadata.range c.metadata.region n sub) (s : Held n c.metadata.region.tracker Ready)
+    (l : IfSome (ticket_of n c.metadata.region.tracker) (λ t. len ≡ t.end - t.start)) (got : IsTrue c.metadata.frame.tells → out ≡ bytes_at sub.start len c.bytes) where
+  here : IsTrue c.metadata.frame.tells → out ≡ slice_of c.bytes w.ticket.start (w.ticket.end - w.ticket.start)
+  here m =
+      let wide : len ≡ w.ticket.end - w.ticket.start = rw w.is at l in
+      got m ∙ ap (λ (a : ℕ). bytes_at a len c.bytes) (sym w.begins) ∙ ap (λ (a : ℕ). bytes_at w.ticket.start a c.bytes) wide
+
+  pub copied_bytes : TicketBytes c n out
+  copied_bytes = rw w.is here
+
+  pub copied : TicketContent told files c n out
+  copied =
+      let one : Some w.ticket ≡ Some s.ticket = sym w.is ∙ s.is in
+      let same : w.ticket ≡ s.ticket = cc in
+      let ready = ready_is s.ticket c.metadata.region.tracker s.state in
+      let all : has_all (record { start = w.ticket.start; end = w.ticket.end }) c.metadata.region.tracker ≡ true = ap (λ (t : Ticket). has_all (record { start = t.start; end = t.end }) c.metadata.region.tracker) same ∙ ready in
+      rw w.is (λ h m. here m ∙ read_kept told files c k (record { start = w.ticket.start; end = w.ticket.end }) (omega (arith, w.some, w.begins, w.ends)) (omega (arith, w.most, w.ends)) all h m)

@@ -5,5 +5,3 @@ pub mod Ranged
 pub mod Filled
 pub mod Statuses
 pub mod Kept
-pub mod Steps
-pub mod Counted

@@ -1,11 +1,7 @@
-ghost use Rattle.std.specs.Prelude.{◌≡◌, ◌≢◌, ◌⊎◌, ◌<◌, ◌≤◌, ◌+◌, ◌-◌, ◌↔◌, ℕ, max, IsTrue, OnOk, OnErr, IfOk, IfSome, IfNone, IsOk, IsSome, is_some, length, [], Some};
+ghost use Rattle.std.specs.Prelude.{◌≡◌, ◌<◌, ◌≤◌, ◌-◌, ℕ, max, IsTrue, OnOk, OnErr, IfOk, IfSome, IfNone, IsOk, IsSome, is_some, length, []};
 ghost use Rattle.region_ranges.specs.Keys.{IsConfig, IsKey, tag_of, key_of, free_tag};
-ghost use Rattle.sparse_tracker.specs.ByteStates.{gap_of, ticket_of, status};
-ghost use Rattle.sparse_tracker.specs.declared.tickets.Ticket.{Ticket};
-ghost use Rattle.sparse_tracker.specs.declared.status.Status.TheVariants as status_of;
-ghost use Rattle.cache_outside.specs.Frames.{put_at, SameOutside};
-ghost use Rattle.blob_parts.specs.Content.{content, slice_of};
-ghost use Rattle.region_cell.specs.Cells.{new_cell, len_of, region_bytes, assign, claim, new_claim, progress, fail, leave, are_present, with_region, with_frame, LiesInRange, FitsGap, FrameStays, Faulted, IsGood};
+ghost use Rattle.blob_parts.specs.Content.{content};
+ghost use Rattle.region_cell.specs.Cells.{new_cell, len_of, assign, claimed, new_claim, fail, leave, are_present, with_region, ticket_in, gap_in, LiesInRange, IsLength, FitsCell, FrameOnly, StoreOnly, Faulted, CopyAnswer, CellBytes, TicketBytes, TicketContent, RangeContent, Stored, Unstored, NeverOpen, IsGood};
 
 use crate::Taken;
 use blob_parts::Piece;
@@ -15,9 +11,9 @@ use sparse_tracker::{Claim, Status, Tracker, claim_places};
 use std::alloc::{AllocError, Global};
 use std::marker::{Model, PhantomData};
 
-/// The bytes of one region of a file, as far as they are present, or of none. Clauses see a note of all but the bytes (the
-/// key's tag, the states with gaps and tickets, what the frame tells, the range in which the cell is filled), the bytes, and
-/// for how many claims there is room.
+/// The bytes of one region of a file, as far as they are present, or of none. Clauses see a note of all but the bytes
+/// (the key's tag, the states with gaps and tickets, what the frame tells, the range in which the cell is filled),
+/// the bytes, and for how many claims there is room.
 #[derive(Drop)]
 pub struct RegionCell<A: Archive, F: Frame> {
     key: Option<RegionKey>,
@@ -36,21 +32,21 @@ impl<A: Archive, F: Frame> Model for RegionCell<A, F> {
 
     ghost Value = { CellView };
 
-    ghost view = { λ c. seen c.key c.tracker (record { faults = F.faults c.frame; size = F.size c.frame; tells = F.tells c.frame; steady = F.steady c.frame }) c.range (F.bytes c.frame) };
+    ghost view = { λ c. seen c.key c.tracker (F.view c.frame) c.range };
 
     ghost invariant = { λ c.
         IfSome c.key IsKey
-        × (F.size c.frame ≡ c.size)
+        × ((F.view c.frame).size ≡ c.size)
         × (c.tracker.first_len ≡ c.size)
-        × IsKept A.tells (content A.blobs) (seen c.key c.tracker (record { faults = F.faults c.frame; size = F.size c.frame; tells = F.tells c.frame; steady = F.steady c.frame }) c.range (F.bytes c.frame)) };
+        × IsKept A.tells (content A.blobs) (seen c.key c.tracker (F.view c.frame) c.range) };
 }
 
 impl<A: Archive, F: Frame> RegionCell<A, F> {
     /// A cell without a key, as long as a region, with all bytes absent. It takes no memory.
     pub fn new(alloc: Global, frame: F, config: &Config) -> RegionCell<A, F>
         requires config { IsConfig config.now }
-        requires size { F.size frame ≡ config.now.region }
-        ensures { result ≡ new_cell (record { faults = F.faults frame; size = F.size frame; tells = F.tells frame; steady = F.steady frame }) config.now.range (F.bytes frame) }
+        requires size { (F.view frame).size ≡ config.now.region }
+        ensures { result ≡ new_cell (F.view frame) config.now.range }
     {
         RegionCell {
             key: None,
@@ -81,7 +77,7 @@ impl<A: Archive, F: Frame> RegionCell<A, F> {
     /// What is true of every cell.
     pub fn lesson(&self)
         ensures good { IsGood A.tells (content A.blobs) self.now }
-        ensures settled { (n : ℕ) (k : Ticket) → ticket_of n self.now.metadata.region.tracker ≡ Some k → status k self.now.metadata.region.tracker ≢ status_of.Open }
+        ensures settled { NeverOpen self.now.metadata.region.tracker }
     {
         self.tracker.lesson();
     }
@@ -92,7 +88,7 @@ impl<A: Archive, F: Frame> RegionCell<A, F> {
         requires gaps { self.old.metadata.region.tracker.gaps ≡ [] }
         requires tickets { self.old.metadata.region.tracker.tickets ≡ [] }
         requires len { (0 < len) × (len ≤ self.old.metadata.frame.size) }
-        requires told { IsTrue A.tells → len ≡ length (region_bytes (content A.blobs) self.old.metadata.frame.size (tag_of key)) }
+        requires whole { IsLength A.tells (content A.blobs) self.old.metadata.frame.size (tag_of key) len }
         ensures { self.new ≡ with_region (assign (tag_of key) len self.old.metadata.region) self.old }
     {
         self.key = Some(key);
@@ -108,12 +104,12 @@ impl<A: Archive, F: Frame> RegionCell<A, F> {
         self.tracker.reserve()
     }
 
-    /// A ticket on `sub`, and where a byte of it is absent a gap: the greatest run of absent bytes in the aligned range of
-    /// `sub` round the first one, which the caller has to fetch and store, or to fail. It takes its memory from the room,
-    /// where there is any, and else may be refused for want of memory, with all as before.
+    /// A ticket on `sub`, and where a byte of it is absent a gap: the greatest run of absent bytes in the aligned
+    /// range of `sub` round the first one, which the caller has to fetch and store, or to fail. It takes its memory
+    /// from the room, where there is any, and else may be refused for want of memory, with all as before.
     pub fn claim(&mut self, sub: ByteRange) -> Result<Claim, AllocError>
         requires { LiesInRange sub self.old.metadata }
-        ensures ok { OnOk result (self.new ≡ record (with_region (claim self.old.metadata.range sub self.old.metadata.region) self.old) { spare = self.old.spare - 1 }) }
+        ensures ok { OnOk result (self.new ≡ claimed sub self.old) }
         ensures claim { IfOk result (λ c. c ≡ new_claim self.old.metadata.range sub self.old.metadata.region) }
         ensures err { OnErr result (self.new ≡ self.old) }
         ensures room { 0 < self.old.spare → IsOk result }
@@ -126,20 +122,16 @@ impl<A: Archive, F: Frame> RegionCell<A, F> {
 
     /// Copies the bytes that the ticket waits for into `out`, where all are present.
     ///
-    /// `Waiting` and `Failed` come exactly by the ticket's status, and `FrameFault` only where the frame's count of failures
-    /// rose in this call. After another answer than `Copied` `out` may hold anything.
+    /// `Waiting` and `Failed` come exactly by the ticket's status, and `FrameFault` only where the frame's count of
+    /// failures rose in this call. After another answer than `Copied` `out` may hold anything.
     pub fn copy(&mut self, ticket: u32, out: &mut [u8]) -> Taken
-        requires ticket { IsSome (ticket_of ticket self.old.metadata.region.tracker) }
-        requires len { IfSome (ticket_of ticket self.old.metadata.region.tracker) (λ k. length out.old ≡ k.end - k.start) }
-        ensures same { self.new ≡ with_frame self.new.metadata.frame self.old }
-        ensures frame { FrameStays self.old.metadata.frame self.new.metadata.frame }
-        ensures waiting { IfSome (ticket_of ticket self.old.metadata.region.tracker) (λ k. (result ≡ Taken.Waiting) ↔ (status k self.old.metadata.region.tracker ≡ status_of.Waiting)) }
-        ensures failed { IfSome (ticket_of ticket self.old.metadata.region.tracker) (λ k. (result ≡ Taken.Failed) ↔ (status k self.old.metadata.region.tracker ≡ status_of.Failed)) }
-        ensures ready { IfSome (ticket_of ticket self.old.metadata.region.tracker) (λ k. ((result ≡ Taken.Copied) ⊎ (result ≡ Taken.FrameFault)) ↔ (status k self.old.metadata.region.tracker ≡ status_of.Ready)) }
+        requires ticket { IsSome (ticket_in ticket self.old) }
+        requires len { IfSome (ticket_in ticket self.old) (λ k. length out.old ≡ k.end - k.start) }
+        ensures same { FrameOnly self.old self.new }
+        ensures answer { IfSome (ticket_in ticket self.old) (CopyAnswer self.old result) }
         ensures fault { result ≡ Taken.FrameFault → Faulted self.old.metadata.frame self.new.metadata.frame }
-        ensures steady { IsTrue self.old.metadata.frame.steady → result ≢ Taken.FrameFault }
-        ensures bytes { IsTrue self.old.metadata.frame.tells → result ≡ Taken.Copied → IfSome (ticket_of ticket self.old.metadata.region.tracker) (λ k. out.new ≡ slice_of self.old.bytes k.start (k.end - k.start)) }
-        ensures content { IsTrue A.tells → IsTrue self.old.metadata.frame.tells → result ≡ Taken.Copied → IfSome (ticket_of ticket self.old.metadata.region.tracker) (λ k. out.new ≡ slice_of (region_bytes (content A.blobs) self.old.metadata.frame.size self.old.metadata.region.tag) k.start (k.end - k.start)) }
+        ensures bytes { result ≡ Taken.Copied → TicketBytes self.old ticket out.new }
+        ensures content { result ≡ Taken.Copied → TicketContent A.tells (content A.blobs) self.old ticket out.new }
     {
         match self.tracker.status(ticket) {
             Status::Waiting => Taken::Waiting,
@@ -155,21 +147,19 @@ impl<A: Archive, F: Frame> RegionCell<A, F> {
         }
     }
 
-    /// Copies the bytes of `sub` into `out`, where all are present, without a ticket. None comes exactly where one of them is
-    /// not present.
+    /// Copies the bytes of `sub` into `out`, where all are present, without a ticket. None comes exactly where one of
+    /// them is not present.
     ///
-    /// `FrameFault` comes only where the frame's count of failures rose in this call. After another answer than Ok `out` may
-    /// hold anything.
+    /// `FrameFault` comes only where the frame's count of failures rose in this call. After another answer than Ok
+    /// `out` may hold anything.
     pub fn peek(&mut self, sub: ByteRange, out: &mut [u8]) -> Option<Result<(), FrameFault>>
         requires sub { LiesInRange sub self.old.metadata }
         requires len { length out.old ≡ sub.end - sub.start }
-        ensures same { self.new ≡ with_frame self.new.metadata.frame self.old }
-        ensures frame { FrameStays self.old.metadata.frame self.new.metadata.frame }
+        ensures same { FrameOnly self.old self.new }
         ensures some { is_some result ≡ are_present sub self.old.metadata.region }
         ensures fault { IfSome result (λ r. OnErr r (Faulted self.old.metadata.frame self.new.metadata.frame)) }
-        ensures steady { IsTrue self.old.metadata.frame.steady → IfSome result (λ r. IsOk r) }
-        ensures bytes { IsTrue self.old.metadata.frame.tells → IfSome result (λ r. OnOk r (out.new ≡ slice_of self.old.bytes sub.start (sub.end - sub.start))) }
-        ensures content { IsTrue A.tells → IsTrue self.old.metadata.frame.tells → IfSome result (λ r. OnOk r (out.new ≡ slice_of (region_bytes (content A.blobs) self.old.metadata.frame.size self.old.metadata.region.tag) sub.start (sub.end - sub.start))) }
+        ensures bytes { IfSome result (λ r. OnOk r (CellBytes self.old sub.start sub.end out.new)) }
+        ensures content { IfSome result (λ r. OnOk r (RangeContent A.tells (content A.blobs) self.old sub out.new)) }
     {
         if !self.tracker.has_all(sub) {
             return None;
@@ -177,22 +167,19 @@ impl<A: Archive, F: Frame> RegionCell<A, F> {
         Some(self.frame.get(sub.start as u32, out))
     }
 
-    /// Stores a piece of the key's file at the present end of an open gap of the caller's. Ok is progress of the gap by the
-    /// piece's length.
+    /// Stores a piece of the key's file at the present end of an open gap of the caller's. Ok is progress of the gap
+    /// by the piece's length.
     ///
-    /// `FrameFault` comes only where the frame's count of failures rose in this call. Which bytes are present, pending and
-    /// absent is then as before.
+    /// `FrameFault` comes only where the frame's count of failures rose in this call. Which bytes are present,
+    /// pending and absent is then as before.
     pub fn store(&mut self, gap: u32, piece: &Piece<A>) -> Result<(), FrameFault>
-        requires gap { IsSome (gap_of gap self.old.metadata.region.tracker) }
-        requires piece { IfSome (gap_of gap self.old.metadata.region.tracker) (λ g. FitsGap self.old.metadata.frame.size self.old.metadata.region.tag g piece.now) }
-        ensures rest { self.new ≡ record (with_frame self.new.metadata.frame (with_region self.new.metadata.region self.old)) { bytes = self.new.bytes } }
-        ensures frame { FrameStays self.old.metadata.frame self.new.metadata.frame }
-        ensures ok { OnOk result (IfSome (gap_of gap self.old.metadata.region.tracker) (λ g. self.new.metadata.region ≡ progress gap (g.upto + length piece.now.bytes) self.old.metadata.region)) }
-        ensures bytes { IsTrue self.old.metadata.frame.tells → OnOk result (IfSome (gap_of gap self.old.metadata.region.tracker) (λ g. self.new.bytes ≡ put_at g.upto piece.now.bytes self.old.bytes)) }
+        requires gap { IsSome (gap_in gap self.old) }
+        requires piece { IfSome (gap_in gap self.old) (λ g. FitsCell self.old g piece.now) }
+        ensures rest { StoreOnly self.old self.new }
+        ensures ok { OnOk result (IfSome (gap_in gap self.old) (Stored gap piece.now.bytes self.old self.new)) }
         ensures err { OnErr result (self.new.metadata.region ≡ self.old.metadata.region) }
-        ensures outside { IsTrue self.old.metadata.frame.tells → OnErr result (IfSome (gap_of gap self.old.metadata.region.tracker) (λ g. SameOutside g.upto (length piece.now.bytes) self.old.bytes self.new.bytes)) }
+        ensures outside { OnErr result (IfSome (gap_in gap self.old) (Unstored piece.now.bytes self.old self.new)) }
         ensures fault { OnErr result (Faulted self.old.metadata.frame self.new.metadata.frame) }
-        ensures steady { IsTrue self.old.metadata.frame.steady → IsOk result }
     {
         self.tracker.lesson();
         let bytes = piece.bytes();
@@ -202,10 +189,10 @@ impl<A: Archive, F: Frame> RegionCell<A, F> {
         Ok(())
     }
 
-    /// The gap's bytes that are still pending are absent again, and the gap is closed. Each ticket that waits for one of them
-    /// is marked failed.
+    /// The gap's bytes that are still pending are absent again, and the gap is closed. Each ticket that waits for one
+    /// of them is marked failed.
     pub fn fail(&mut self, gap: u32)
-        requires { IsSome (gap_of gap self.old.metadata.region.tracker) }
+        requires { IsSome (gap_in gap self.old) }
         ensures { self.new ≡ with_region (fail gap self.old.metadata.region) self.old }
     {
         self.tracker.fail(gap);
@@ -213,7 +200,7 @@ impl<A: Archive, F: Frame> RegionCell<A, F> {
 
     /// Forgets the ticket.
     pub fn leave(&mut self, ticket: u32)
-        requires { IsSome (ticket_of ticket self.old.metadata.region.tracker) }
+        requires { IsSome (ticket_in ticket self.old) }
         ensures { self.new ≡ with_region (leave ticket self.old.metadata.region) self.old }
     {
         self.tracker.leave(ticket);

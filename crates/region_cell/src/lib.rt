@@ -4,8 +4,6 @@
 mod cell;
 mod laws;
 mod taken;
-#[cfg(test)]
-mod tests;
 
 pub use cell::{RegionCell, cell_crosses};
 pub use laws::{filled_stays, len_stays, ranged_stays};

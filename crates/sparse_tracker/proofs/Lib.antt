@@ -8,3 +8,4 @@ pub mod Stores
 pub mod Lessons
 pub mod Weighs
 pub mod Spots
+pub mod Heavy

@@ -6,6 +6,7 @@ use Rattle.sparse_tracker.specs.declared.gaps.OpenGap.{OpenGap}
 use Rattle.sparse_tracker.specs.declared.tickets.Ticket.{Ticket}
 use Rattle.sparse_tracker.specs.ByteStates.{ByteState, fail_ticket, move_gap, without_gap, without_ticket}
 use Rattle.sparse_tracker.specs.Weights.{total, by_ticket, by_gap, TicketWeights, GapWeights}
+use Rattle.sparse_tracker.proofs.Heavy.{ticket_found, gap_found, no_tickets, no_gaps}
 
 pub total-push : {X : Type 0} (f : X → ℕ) (xs : List X) (x : X) → total f (xs ++ x ∷ []) ≡ total f xs + f x
 total-push f [] x = omega arith
@@ -51,6 +52,8 @@ tickets_told = record {
   added = λ f sub t. total-push (by_ticket f) t.tickets _;
   left = λ f n k t h. left_weighs f n t.tickets k h;
   failed = λ f g t. failed_weighs f g t.byte_states t.tickets;
+  found = ticket_found;
+  none = λ t e. no_tickets t.tickets e;
 }
 
 pub gaps_told : GapWeights
@@ -58,4 +61,6 @@ gaps_told = record {
   opened = λ f run t. total-push (by_gap f) t.gaps _;
   moved = λ f g to o t h. moved_weighs f g to t.gaps o h;
   failed = λ f g o t h. closed_weighs f g t.gaps o h;
+  found = gap_found;
+  none = λ t e. no_gaps t.gaps e;
 }

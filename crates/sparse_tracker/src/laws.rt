@@ -3,12 +3,12 @@
 ghost use Rattle.sparse_tracker.specs.Weights.{TicketWeights, GapWeights};
 ghost use Rattle.sparse_tracker.specs.Places.{ClaimPlaces, PresentStays};
 
-/// What a claim, a leave and a failure make of the tickets.
+/// What a claim, a leave and a failure make of the tickets, and whose ticket is there.
 pub fn ticket_weights()
     ensures { TicketWeights }
 {}
 
-/// What a claim, progress and a failure make of the open gaps.
+/// What a claim, progress and a failure make of the open gaps, and whose gap is open.
 pub fn gap_weights()
     ensures { GapWeights }
 {}

@@ -9,16 +9,14 @@ use Rattle.memchr.specs.Find.{Nowhere, Passes, places_from}
 use Rattle.directory_input.specs.Reads.{Read, slice_of}
 use Rattle.directory_input.specs.Windows.{Window, FitsFile, moved_to, window_bytes}
 use Rattle.directory_input.proofs.Slices.{drop_drop}
-use Rattle.directory_input.specs.Causes.{IsCaused, HasBytesCause}
-use Rattle.directory_input.specs.declared.files.BytesError.{BytesError}
-use Rattle.directory_input.specs.declared.files.BytesError.TheVariants.{Fault, Gone, NoMemory}
+use Rattle.directory_input.specs.Files.{FilesView, FilesLater}
 use Rattle.text_lines.specs.declared.reader.LineError.{LineError}
 use Rattle.text_lines.specs.declared.reader.LineError.TheVariants.{Unended, TooLong, Bytes}
 use Rattle.text_lines.specs.Escapes.{newline}
 use Rattle.text_lines.specs.Lines.{cut}
 use Rattle.text_lines.specs.Walks.{taken, then_lines, front, Lands}
 use Rattle.text_lines.proofs.Cuts.{IsPlain, begins, to_newline}
-use Rattle.text_lines.specs.Readers.{Reading, FitsBytes, ArePieces, ReadsPieces, IsOfBytes, Names, Refuses}
+use Rattle.text_lines.specs.Readers.{Reading, FitsBytes, ArePieces, ReadsPieces, IsOfBytes, Names, Refuses, bytes_ahead, skip_of}
 
 drop_append : (n : ℕ) (xs ys : List ℕ) → n ≤ length xs → drop n (xs ++ ys) ≡ drop n xs ++ ys
 drop_append zero xs ys le = refl
@@ -50,18 +48,14 @@ pub rest_after : (at used : ℕ) (ahead text : List ℕ) → used ≤ length ahe
 rest_after at used ahead text le h =
     sym (drop_append used ahead (drop (at + length ahead) text) le) ∙ ap (drop used) h ∙ drop_drop at used text
 
-abbrev pub skip_of : Reading → ℕ → Reading
-skip_of r n = record { input = moved_to (r.input.position + n) r.input; ahead = drop n r.ahead }
-
-pub skip_fits : (count : ℕ) (length_of : ℕ → ℕ) (tells : Bool) (bytes : ℕ → List ℕ) (r : Reading) (n : ℕ) → n ≤ length r.ahead
-    → FitsBytes count length_of tells bytes r → FitsBytes count length_of tells bytes (skip_of r n)
-skip_fits count length_of tells bytes r n le h =
+pub skip_fits : (files : FilesView) (r : Reading) (n : ℕ) → n ≤ length r.ahead → FitsBytes files r → FitsBytes files (skip_of r n)
+skip_fits files r n le h =
     let at = r.input.position in
     let len : at + n + length (drop n r.ahead) ≡ at + length r.ahead = omega (arith, le, length-drop n r.ahead) in
     record {
-      file = record { file = h.file.file; inside = h.file.inside; told = h.file.told };
+      file = record { file = h.file.file; inside = h.file.inside; whole = h.file.whole };
       inside = omega (arith, len, h.inside);
-      ahead = λ t. ap (λ k. drop n r.ahead ++ drop k (window_bytes bytes r.input)) len ∙ rest_after at n r.ahead (window_bytes bytes r.input) le (h.ahead t);
+      ahead = λ t. ap (λ k. drop n r.ahead ++ drop k (window_bytes files.bytes r.input)) len ∙ rest_after at n r.ahead (window_bytes files.bytes r.input) le (h.ahead t);
     }
 
 pieces_append : (file start size : ℕ) (rs ss : List Read) → ArePieces file start size rs → ArePieces file start size ss → ArePieces file start size (rs ++ ss)
@@ -69,12 +63,16 @@ pieces_append file start size [] ss h k = k
 pieces_append file start size (r ∷ rs) ss h k = (h.0, pieces_append file start size rs ss h.1 k)
 
 -- reads of pieces after reads of pieces, of an input that has moved
-pub pieces_on : {S : Type 0} (goes_by : List Read → S → S → Type 0)
+pub pieces_on : {S : Type 0} {goes_by : List Read → S → S → Type 0} {w v : Window} {x y z : S} (n : ℕ)
     → ((rs ss : List Read) (x y z : S) → goes_by rs x y → goes_by ss y z → goes_by (rs ++ ss) x z)
-    → (w v : Window) (n : ℕ) (x y z : S) → v ≡ moved_to n w → ReadsPieces goes_by w x y → ReadsPieces goes_by v y z → ReadsPieces goes_by w x z
-pieces_on goes_by more w v n x y z is h k =
-    let later = rw is at k.1 in
-    (h.0 ++ k.0, pieces_append w.file w.start w.size h.0 k.0 h.1 later, more h.0 k.0 x y z h.2 k.2)
+    → v ≡ moved_to n w → ReadsPieces goes_by w x y → ReadsPieces goes_by v y z → ReadsPieces goes_by w x z
+pieces_on {w = w} {v} {x} {y} {z} n more is h k =
+    let later = rw is at k.pieces in
+    record { reads = h.reads ++ k.reads; pieces = pieces_append w.file w.start w.size h.reads k.reads h.pieces later; by = more h.reads k.reads x y z h.by k.by }
+
+-- before the first read
+pub no_pieces : {S : Type 0} (goes_by : List Read → S → S → Type 0) (w : Window) (x : S) → goes_by [] x x → ReadsPieces goes_by w x x
+no_pieces goes_by w x none = record { reads = []; pieces = tt; by = none }
 
 -- nothing read ahead, so that nothing lies between the two ends of it
 pub nothing_held : (from till : ℕ) (xs : List ℕ) → from ≤ till → till ≤ length xs → take (till - from) (drop from xs) ≡ [] → till ≡ from
@@ -83,74 +81,51 @@ nothing_held from till xs order held none =
     omega (arith, order, held, len, length-take (till - from) (drop from xs), length-drop from xs)
 
 -- what was read ahead into an empty buffer
-pub filled_fits : (count : ℕ) (length_of : ℕ → ℕ) (tells tells_before : Bool) (bytes bytes_before : ℕ → List ℕ) (before now : Window) (place n : ℕ) (buffer held : List ℕ)
-    → held ≡ buffer → tells ≡ tells_before → bytes ≡ bytes_before → now ≡ moved_to (before.position + n) before → before.position ≡ place
-    → n ≤ length buffer → place + n ≤ before.size → FitsFile count length_of tells bytes now
-    → (IsTrue tells_before → take n buffer ≡ slice_of before.position n (window_bytes bytes_before before))
-    → FitsBytes count length_of tells bytes (record { input = moved_to place now; ahead = take (n - 0) held })
-filled_fits count length_of tells tells_before bytes bytes_before before now place n buffer held is tell same moved at few within fits told =
+pub filled_fits : (files now : FilesView) (w v : Window) (place n : ℕ) (buffer held : List ℕ)
+    → held ≡ buffer → FilesLater files now → v ≡ moved_to (w.position + n) w → w.position ≡ place
+    → n ≤ length buffer → place + n ≤ w.size → FitsFile now v → (IsTrue files.tells → take n buffer ≡ bytes_ahead files w n)
+    → FitsBytes now (record { input = moved_to place v; ahead = take (n - 0) held })
+filled_fits files now w v place n buffer held is later moved at few within fits bytes =
     let e : n - 0 ≡ n = omega arith in
     let len : length (take n buffer) ≡ n = omega (arith, few, length-take n buffer) in
-    let size : now.size ≡ before.size = ap (λ (w : Window). w.size) moved in
-    let text = window_bytes bytes_before before in
-    let same_text : window_bytes bytes now ≡ text = ap (window_bytes bytes) moved ∙ ap (λ (f : ℕ → List ℕ). window_bytes f before) same in
-    let inside : place + length (take n buffer) ≤ now.size = omega (arith, len, size, within) in
-    let whole : FitsBytes count length_of tells bytes (record { input = moved_to place now; ahead = take n buffer }) = record {
-      file = record { file = fits.file; inside = fits.inside; told = fits.told };
+    let size : v.size ≡ w.size = ap (λ (w : Window). w.size) moved in
+    let text = window_bytes files.bytes w in
+    let same_text : window_bytes now.bytes v ≡ text = ap (window_bytes now.bytes) moved ∙ ap (λ (f : ℕ → List ℕ). window_bytes f w) later.bytes in
+    let inside : place + length (take n buffer) ≤ v.size = omega (arith, len, size, within) in
+    let whole : FitsBytes now (record { input = moved_to place v; ahead = take n buffer }) = record {
+      file = record { file = fits.file; inside = fits.inside; whole = fits.whole };
       inside = inside;
       ahead = λ t. subst (λ (x : List ℕ). take n buffer ++ drop (place + length (take n buffer)) x ≡ drop place x) (sym same_text)
-          (piece_fits place n buffer text few (told (sym tell ∙ t) ∙ ap (λ k. slice_of k n text) at));
+          (piece_fits place n buffer text few (bytes (sym later.tells ∙ t) ∙ ap (λ k. slice_of k n text) at));
     } in
     rw (is, e) whole
 
 -- nothing read ahead, at any place of the input
-pub back_fits : (count : ℕ) (length_of : ℕ → ℕ) (tells : Bool) (bytes : ℕ → List ℕ) (r : Reading) (at : ℕ) → at ≤ r.input.size
-    → FitsBytes count length_of tells bytes r → FitsBytes count length_of tells bytes (record { input = moved_to at r.input; ahead = [] })
-back_fits count length_of tells bytes r at le h =
+pub back_fits : (files : FilesView) (r : Reading) (at : ℕ) → at ≤ r.input.size → FitsBytes files r → FitsBytes files (record { input = moved_to at r.input; ahead = [] })
+back_fits files r at le h =
     let e : at + 0 ≡ at = omega arith in
     let inside : at + 0 ≤ r.input.size = omega (arith, le) in
     record {
-      file = record { file = h.file.file; inside = h.file.inside; told = h.file.told };
+      file = record { file = h.file.file; inside = h.file.inside; whole = h.file.whole };
       inside = inside;
-      ahead = λ t. ap (λ k. drop k (window_bytes bytes r.input)) e;
+      ahead = λ t. ap (λ k. drop k (window_bytes files.bytes r.input)) e;
     }
 
 -- a reader of which nothing was read yet
-pub new_fits : (count : ℕ) (length_of : ℕ → ℕ) (tells : Bool) (bytes : ℕ → List ℕ) (w : Window) (place : ℕ) → place ≤ w.size
-    → FitsFile count length_of tells bytes w → FitsBytes count length_of tells bytes (record { input = moved_to place w; ahead = [] })
-new_fits count length_of tells bytes w place le h =
+pub new_fits : (files : FilesView) (w : Window) (place : ℕ) → place ≤ w.size → FitsFile files w → FitsBytes files (record { input = moved_to place w; ahead = [] })
+new_fits files w place le h =
     let e : place + 0 ≡ place = omega arith in
     let inside : place + 0 ≤ w.size = omega (arith, le) in
     record {
-      file = record { file = h.file; inside = h.inside; told = h.told };
+      file = record { file = h.file; inside = h.inside; whole = h.whole };
       inside = inside;
-      ahead = λ t. ap (λ k. drop k (window_bytes bytes w)) e;
+      ahead = λ t. ap (λ k. drop k (window_bytes files.bytes w)) e;
     }
 
 pub moved_twice : (w v u : Window) (m n : ℕ) → v ≡ moved_to (w.position + m) w → u ≡ moved_to (v.position + n) v → u ≡ moved_to (w.position + (m + n)) w
 moved_twice w v u m n h k =
     let e : w.position + m + n ≡ w.position + (m + n) = omega arith in
     k ∙ ap (λ (x : Window). moved_to (x.position + n) x) h ∙ ap (λ q. moved_to q w) e
-
-caused_on : (before between now first second : ℕ) (gone : Bool) (r : Option BytesError) → before ≤ between → second ≡ first
-    → IsCaused between now second gone r → IsCaused before now first gone r
-caused_on before between now first second gone None le same h = tt
-caused_on before between now first second gone (Some Fault) le same h =
-    let rose : min (between + 1) 18446744073709551615 ≤ now = h in
-    let longer : min (before + 1) 18446744073709551615 ≤ now = omega (arith, le, rose) in
-    longer
-caused_on before between now first second gone (Some (Gone m)) le same h = (h.0 ∙ same, h.1)
-caused_on before between now first second gone (Some NoMemory) le same h = tt
-
--- the cause of a refusal, seen from an earlier state
-pub cause_on : (before between now first second : ℕ) (gone wanted wanted_between wanted_now : Bool) (r : Option BytesError)
-    → before ≤ between → second ≡ first → (wanted ≡ false → wanted_between ≡ false)
-    → HasBytesCause between now second gone wanted_between wanted_now r → HasBytesCause before now first gone wanted wanted_now r
-cause_on before between now first second gone wanted wanted_between wanted_now r le same keeps h = record {
-  later = omega (arith, le, h.later);
-  cause = caused_on before between now first second gone r le same h.cause;
-  memory = λ z. h.memory (keeps z);
-}
 
 pub names_of_bytes : (at : ℕ) (e : LineError) → IsOfBytes e → Names at e
 names_of_bytes at (Bytes e) h = tt

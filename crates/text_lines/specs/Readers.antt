@@ -1,6 +1,7 @@
 -- A reader of lines, and what its next line is.
 use Rattle.std.specs.Prelude.{ℕ, ◌≡◌, ◌<◌, ◌≤◌, ◌+◌, ◌-◌, Bool, true, false, IsTrue, List, [], ◌∷◌, ◌++◌, length, drop, min, Option, Some, None, Result, Ok, Err}
-use Rattle.directory_input.specs.Reads.{Read}
+use Rattle.directory_input.specs.Reads.{Read, one_read, slice_of}
+use Rattle.directory_input.specs.Files.{FilesView}
 use Rattle.directory_input.specs.Windows.{Window, FitsFile, window_bytes, moved_to}
 use Rattle.directory_input.specs.declared.files.BytesError.{BytesError}
 use Rattle.text_lines.specs.Lines.{cut}
@@ -23,15 +24,20 @@ pub record Reading : Type 0 where
   pub input : Window
   pub ahead : List ℕ
 
+-- a reader that has left so many of the bytes read ahead behind
+abbrev pub skip_of : Reading → ℕ → Reading
+skip_of r n = record { input = moved_to (r.input.position + n) r.input; ahead = drop n r.ahead }
+
 -- the bytes of an input from its position on
 abbrev pub rest : (ℕ → List ℕ) → Window → List ℕ
 rest bytes w = drop w.position (window_bytes bytes w)
 
 -- what was read ahead are the bytes of these files at that place
-pub record FitsBytes (count : ℕ) (length_of : ℕ → ℕ) (tells : Bool) (bytes : ℕ → List ℕ) (r : Reading) : Type 0 where
-  pub file : FitsFile count length_of tells bytes r.input
+pub record FitsBytes (files : FilesView) (r : Reading) : Type 0 where
+  pub file : FitsFile files r.input
   pub inside : r.input.position + length r.ahead ≤ r.input.size
-  pub ahead : IsTrue tells → r.ahead ++ drop (r.input.position + length r.ahead) (window_bytes bytes r.input) ≡ rest bytes r.input
+  pub ahead : IsTrue files.tells
+      → r.ahead ++ drop (r.input.position + length r.ahead) (window_bytes files.bytes r.input) ≡ rest files.bytes r.input
 
 -- whether bytes are read ahead; where none are, the input has ended
 abbrev pub HasMore : Bool → Reading → Type 0
@@ -48,8 +54,10 @@ ArePieces file start size [] = Unit {0}
 ArePieces file start size (r ∷ rs) = IsPiece file start size r × ArePieces file start size rs
 
 -- the later state comes from the earlier one by reads of pieces of the input
-abbrev pub ReadsPieces : {S : Type 0} → (List Read → S → S → Type 0) → Window → S → S → Type 0
-ReadsPieces goes_by w before now = (reads : List Read) × ArePieces w.file w.start w.size reads × goes_by reads before now
+pub record ReadsPieces {S : Type 0} (goes_by : List Read → S → S → Type 0) (w : Window) (before now : S) : Type 0 where
+  pub reads : List Read
+  pub pieces : ArePieces w.file w.start w.size reads
+  pub by : goes_by reads before now
 
 -- a refusal for a text whose next line begins here: the line is too long, or the text ends in it
 abbrev pub Refuses : LineError → List ℕ → Type 0
@@ -64,6 +72,11 @@ GivesLine (Ok None) before after at now = before ≡ []
 GivesLine (Ok (Some line)) before after at now =
     (cut before ≡ then_lines (taken line.content (now - at)) (cut after)) × (now - at ≤ line_limit)
 GivesLine (Err e) before after at now = Refuses e before
+
+-- the same of files whose bytes are told, where the input stood before the call and stands after it
+abbrev pub ReadsLine : FilesView → Result (Option Line) LineError → (before now : Window) → Type 0
+ReadsLine files result before now =
+    IsTrue files.tells → GivesLine result (rest files.bytes before) (rest files.bytes now) before.position now.position
 
 -- a refusal names the place where the line begins
 abbrev pub Names : ℕ → LineError → Type 0
@@ -90,14 +103,22 @@ Moved (Ok (Some s)) before now = (0 < s.used) × (before.position + s.used ≤ b
 Moved (Ok None) before now = (now ≡ before) × (before.position ≡ before.size)
 Moved (Err e) before now = now ≡ before
 
--- one step through a line: its bytes
-abbrev pub Steps : Result (Option Step) LineError → (slash : Bool) → (content_before content : List ℕ) → (bytes left : List ℕ) → Type 0
+-- one step through a line, from content before it to content now: its bytes
+abbrev pub Steps : Result (Option Step) LineError → (slash : Bool) → (before now : List ℕ) → (bytes left : List ℕ) → Type 0
 Steps (Ok (Some s)) slash before now bytes left = Lands s.ended slash s.slash before now s.used bytes left
 Steps (Ok None) slash before now bytes left = bytes ≡ []
 Steps (Err e) slash before now bytes left = Unit {0}
 
 abbrev pub line_of : ℕ → List ℕ → Line
 line_of at content = record { at = at; content = content }
+
+-- so many bytes of an input of these files, from its position on, where they are told
+abbrev pub bytes_ahead : FilesView → Window → ℕ → List ℕ
+bytes_ahead files w size = slice_of w.position size (window_bytes files.bytes w)
+
+-- a read of a piece at the position of an input, into so much room
+abbrev pub piece_of : Window → ℕ → List Read
+piece_of w room = one_read w.file (w.start + w.position) (min room (w.size - w.position))
 
 -- the answer of a call that puts the line into a place of the caller's
 abbrev pub line_answer : Result Bool LineError → Line → Result (Option Line) LineError

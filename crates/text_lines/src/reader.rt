@@ -1,9 +1,9 @@
 // A reader of the lines of an input, which reads ahead in pieces.
-ghost use Rattle.std.specs.Prelude.{◌≡◌, ◌<◌, ◌≤◌, ◌+◌, ◌-◌, ◌∷◌, [], ℕ, List, Bool, true, false, IsTrue, Option, Some, None, Ok, IfOk, OnOk, OnErr, IfErr, min, length, take, drop};
-ghost use Rattle.directory_input.specs.Windows.{FitsFile, moved_to, window_bytes};
-ghost use Rattle.directory_input.specs.Reads.{one_read, slice_of};
+ghost use Rattle.std.specs.Prelude.{◌≡◌, ◌<◌, ◌≤◌, ◌+◌, ◌-◌, [], IsTrue, IfOk, OnOk, OnErr, IfErr, min, length, take};
+ghost use Rattle.directory_input.specs.Files.{FilesView};
+ghost use Rattle.directory_input.specs.Windows.{FitsFile, moved_to};
 ghost use Rattle.directory_input.specs.Causes.{HasBytesCause, refusal};
-ghost use Rattle.text_lines.specs.Readers.{Reading, FitsBytes, ReadsPieces, GivesLine, Places, Moved, Steps, Came, HasMore, IsOfBytes, rest, line_answer, line_of, line_refusal};
+ghost use Rattle.text_lines.specs.Readers.{FitsBytes, ReadsPieces, ReadsLine, Places, Moved, Steps, Came, HasMore, IsOfBytes, rest, line_answer, line_of, line_refusal, bytes_ahead, piece_of, skip_of};
 
 use crate::steps::{Step, take_near, take_step};
 use byte_text::Text;
@@ -54,17 +54,17 @@ fn read_piece<B: FileBytes>(
     bytes: &mut B,
     buffer: &mut [u8],
 ) -> Result<usize, BytesError>
-    requires { FitsFile (B.count bytes.old) (B.length_of bytes.old) (B.tells bytes.old) (B.bytes bytes.old) input.old }
+    requires { FitsFile (B.view bytes.old) input.old }
     ensures count { IfOk result (λ n. n ≡ min (length buffer.old) (input.old.size - input.old.position)) }
     ensures moved { IfOk result (λ n. input.new ≡ moved_to (input.old.position + n) input.old) }
     ensures stays { OnErr result (input.new ≡ input.old) }
     ensures inside { IfOk result (λ n. n ≤ length buffer.new) }
     ensures len { length buffer.new ≡ length buffer.old }
-    ensures told { IsTrue (B.tells bytes.old) → IfOk result (λ n. take n buffer.new ≡ slice_of input.old.position n (window_bytes (B.bytes bytes.old) input.old)) }
-    ensures reads { B.goes_by (one_read input.old.file (input.old.start + input.old.position) (min (length buffer.old) (input.old.size - input.old.position))) bytes.old bytes.new }
-    ensures goes { B.goes_on bytes.old bytes.new }
-    ensures fits { FitsFile (B.count bytes.new) (B.length_of bytes.new) (B.tells bytes.new) (B.bytes bytes.new) input.new }
-    ensures cause { HasBytesCause (B.faults bytes.old) (B.faults bytes.new) (B.mount bytes.old) (B.gone bytes.new) (B.wanted bytes.old) (B.wanted bytes.new) (refusal result) }
+    ensures bytes { IsTrue (B.view bytes.old).tells
+        → IfOk result (λ n. take n buffer.new ≡ bytes_ahead (B.view bytes.old) input.old n) }
+    ensures goes { B.goes_by (piece_of input.old (length buffer.old)) bytes.old bytes.new }
+    ensures fits { FitsFile (B.view bytes.new) input.new }
+    ensures cause { HasBytesCause (B.view bytes.old) (B.view bytes.new) (refusal result) }
 {
     let left = input.len() - input.pos();
     let count = buffer.len().min(left as usize);
@@ -95,7 +95,8 @@ impl Model for LineReader {
 
     ghost Value = { Reading };
 
-    ghost view = { λ r. record { input = moved_to r.place r.input; ahead = take (r.till - r.from) (drop r.from r.buffer.items) } };
+    ghost view = { λ r. 
+        record { input = moved_to r.place r.input; ahead = take (r.till - r.from) (drop r.from r.buffer.items) } };
 
     ghost invariant = { λ r. IsBuffered r.input r.place (length r.buffer.items) r.from r.till };
 }
@@ -104,7 +105,7 @@ impl LineReader {
     /// A reader of the lines of this input from its position on.
     pub fn new(alloc: Global, input: Input) -> Result<LineReader, AllocError>
         ensures stands { IfOk result (λ r. r ≡ record { input = input; ahead = [] }) }
-        ensures fits { (count : ℕ) (length_of : ℕ → ℕ) (tells : Bool) (bytes : ℕ → List ℕ) → FitsFile count length_of tells bytes input → IfOk result (FitsBytes count length_of tells bytes) }
+        ensures fits { (files : FilesView) → FitsFile files input → IfOk result (FitsBytes files) }
     {
         let place = input.pos();
         let room = if input.len() < PIECE as u64 {
@@ -140,7 +141,7 @@ impl LineReader {
     /// Leaves so many of the bytes that were read ahead behind.
     fn skip(&mut self, count: usize)
         requires { count ≤ length self.old.ahead }
-        ensures { self.new ≡ record { input = moved_to (self.old.input.position + count) self.old.input; ahead = drop count self.old.ahead } }
+        ensures { self.new ≡ skip_of self.old count }
     {
         self.from += count;
         self.place += count as u64;
@@ -159,15 +160,14 @@ impl LineReader {
 
     /// Reads the next piece, where nothing is read ahead and the input has not ended.
     fn fill<B: FileBytes>(&mut self, bytes: &mut B) -> Result<(), BytesError>
-        requires fits { FitsBytes (B.count bytes.old) (B.length_of bytes.old) (B.tells bytes.old) (B.bytes bytes.old) self.old }
+        requires fits { FitsBytes (B.view bytes.old) self.old }
         requires none { self.old.ahead ≡ [] }
         requires left { self.old.input.position < self.old.input.size }
         ensures some { OnOk result (0 < length self.new.ahead) }
         ensures input { self.new.input ≡ self.old.input }
-        ensures fits { FitsBytes (B.count bytes.new) (B.length_of bytes.new) (B.tells bytes.new) (B.bytes bytes.new) self.new }
+        ensures fits { FitsBytes (B.view bytes.new) self.new }
         ensures pieces { ReadsPieces B.goes_by self.old.input bytes.old bytes.new }
-        ensures goes { B.goes_on bytes.old bytes.new }
-        ensures cause { HasBytesCause (B.faults bytes.old) (B.faults bytes.new) (B.mount bytes.old) (B.gone bytes.new) (B.wanted bytes.old) (B.wanted bytes.new) (refusal result) }
+        ensures cause { HasBytesCause (B.view bytes.old) (B.view bytes.new) (refusal result) }
     {
         self.from = 0;
         self.till = 0;
@@ -182,13 +182,12 @@ impl LineReader {
 
     /// Reads the next piece where all that was read ahead is used; false where the input has ended.
     fn more<B: FileBytes>(&mut self, bytes: &mut B) -> Result<bool, BytesError>
-        requires { FitsBytes (B.count bytes.old) (B.length_of bytes.old) (B.tells bytes.old) (B.bytes bytes.old) self.old }
+        requires { FitsBytes (B.view bytes.old) self.old }
         ensures has { IfOk result (λ b. HasMore b self.new) }
         ensures input { self.new.input ≡ self.old.input }
-        ensures fits { FitsBytes (B.count bytes.new) (B.length_of bytes.new) (B.tells bytes.new) (B.bytes bytes.new) self.new }
+        ensures fits { FitsBytes (B.view bytes.new) self.new }
         ensures pieces { ReadsPieces B.goes_by self.old.input bytes.old bytes.new }
-        ensures goes { B.goes_on bytes.old bytes.new }
-        ensures cause { HasBytesCause (B.faults bytes.old) (B.faults bytes.new) (B.mount bytes.old) (B.gone bytes.new) (B.wanted bytes.old) (B.wanted bytes.new) (refusal result) }
+        ensures cause { HasBytesCause (B.view bytes.old) (B.view bytes.new) (refusal result) }
     {
         if !self.unread().is_empty() {
             return Ok(true);
@@ -209,14 +208,14 @@ impl LineReader {
         slash: bool,
         content: &mut Text,
     ) -> Result<Option<Step>, LineError>
-        requires { FitsBytes (B.count bytes.old) (B.length_of bytes.old) (B.tells bytes.old) (B.bytes bytes.old) self.old }
+        requires { FitsBytes (B.view bytes.old) self.old }
         ensures only { IfErr result IsOfBytes }
         ensures moved { Moved result self.old.input self.new.input }
-        ensures told { IsTrue (B.tells bytes.old) → Steps result slash content.old content.new (rest (B.bytes bytes.old) self.old.input) (rest (B.bytes bytes.old) self.new.input) }
-        ensures fits { FitsBytes (B.count bytes.new) (B.length_of bytes.new) (B.tells bytes.new) (B.bytes bytes.new) self.new }
+        ensures steps { IsTrue (B.view bytes.old).tells → Steps result slash content.old content.new
+            (rest (B.view bytes.old).bytes self.old.input) (rest (B.view bytes.old).bytes self.new.input) }
+        ensures fits { FitsBytes (B.view bytes.new) self.new }
         ensures pieces { ReadsPieces B.goes_by self.old.input bytes.old bytes.new }
-        ensures goes { B.goes_on bytes.old bytes.new }
-        ensures cause { HasBytesCause (B.faults bytes.old) (B.faults bytes.new) (B.mount bytes.old) (B.gone bytes.new) (B.wanted bytes.old) (B.wanted bytes.new) (line_refusal result) }
+        ensures cause { HasBytesCause (B.view bytes.old) (B.view bytes.new) (line_refusal result) }
     {
         match self.more(bytes) {
             Ok(true) => {}
@@ -235,15 +234,15 @@ impl LineReader {
         bytes: &mut B,
         content: &mut Text,
     ) -> Result<bool, LineError>
-        requires fits { FitsBytes (B.count bytes.old) (B.length_of bytes.old) (B.tells bytes.old) (B.bytes bytes.old) self.old }
+        requires fits { FitsBytes (B.view bytes.old) self.old }
         requires empty { content.old ≡ [] }
         ensures came { Came result self.old.input.position self.new.input.position self.old.input.size }
         ensures input { self.new.input ≡ moved_to self.new.input.position self.old.input }
-        ensures told { IsTrue (B.tells bytes.old) → GivesLine (line_answer result (line_of self.old.input.position content.new)) (rest (B.bytes bytes.old) self.old.input) (rest (B.bytes bytes.old) self.new.input) self.old.input.position self.new.input.position }
-        ensures fits { FitsBytes (B.count bytes.new) (B.length_of bytes.new) (B.tells bytes.new) (B.bytes bytes.new) self.new }
+        ensures line { ReadsLine (B.view bytes.old) (line_answer result (line_of self.old.input.position content.new))
+            self.old.input self.new.input }
+        ensures fits { FitsBytes (B.view bytes.new) self.new }
         ensures pieces { ReadsPieces B.goes_by self.old.input bytes.old bytes.new }
-        ensures goes { B.goes_on bytes.old bytes.new }
-        ensures cause { HasBytesCause (B.faults bytes.old) (B.faults bytes.new) (B.mount bytes.old) (B.gone bytes.new) (B.wanted bytes.old) (B.wanted bytes.new) (line_refusal result) }
+        ensures cause { HasBytesCause (B.view bytes.old) (B.view bytes.new) (line_refusal result) }
     {
         let at = self.place;
         let mut size: u64 = 0;
@@ -273,15 +272,15 @@ impl LineReader {
         bytes: &mut B,
         content: &mut Text,
     ) -> Result<bool, LineError>
-        requires fits { FitsBytes (B.count bytes.old) (B.length_of bytes.old) (B.tells bytes.old) (B.bytes bytes.old) self.old }
+        requires fits { FitsBytes (B.view bytes.old) self.old }
         requires empty { content.old ≡ [] }
         ensures came { Came result self.old.input.position self.new.input.position self.old.input.size }
         ensures input { self.new.input ≡ moved_to self.new.input.position self.old.input }
-        ensures told { IsTrue (B.tells bytes.old) → GivesLine (line_answer result (line_of self.old.input.position content.new)) (rest (B.bytes bytes.old) self.old.input) (rest (B.bytes bytes.old) self.new.input) self.old.input.position self.new.input.position }
-        ensures fits { FitsBytes (B.count bytes.new) (B.length_of bytes.new) (B.tells bytes.new) (B.bytes bytes.new) self.new }
+        ensures line { ReadsLine (B.view bytes.old) (line_answer result (line_of self.old.input.position content.new))
+            self.old.input self.new.input }
+        ensures fits { FitsBytes (B.view bytes.new) self.new }
         ensures pieces { ReadsPieces B.goes_by self.old.input bytes.old bytes.new }
-        ensures goes { B.goes_on bytes.old bytes.new }
-        ensures cause { HasBytesCause (B.faults bytes.old) (B.faults bytes.new) (B.mount bytes.old) (B.gone bytes.new) (B.wanted bytes.old) (B.wanted bytes.new) (line_refusal result) }
+        ensures cause { HasBytesCause (B.view bytes.old) (B.view bytes.new) (line_refusal result) }
     {
         if let Some(used) = take_near(self.unread(), content)? {
             self.skip(used);
@@ -290,23 +289,23 @@ impl LineReader {
         self.walk_line(bytes, content)
     }
 
-    /// Puts the next line into `line`, whose room is used again; false exactly where the input has ended. `TooLong` comes
-    /// exactly where the line that begins here has more than 16,777,216 bytes, its end counted, and `Unended` exactly
-    /// where the input ends inside it and it has at most as many. After any refusal the reader stands at that line's
-    /// start, so that the next call reads it again, and `line` may hold anything.
+    /// Puts the next line into `line`, whose room is used again; false exactly where the input has ended. `TooLong`
+    /// comes exactly where the line that begins here has more than 16,777,216 bytes, its end counted, and `Unended`
+    /// exactly where the input ends inside it and it has at most as many. After any refusal the reader stands at that
+    /// line's start, so that the next call reads it again, and `line` may hold anything.
     pub fn next_in<B: FileBytes>(
         &mut self,
         bytes: &mut B,
         line: &mut Line,
     ) -> Result<bool, LineError>
-        requires { FitsBytes (B.count bytes.old) (B.length_of bytes.old) (B.tells bytes.old) (B.bytes bytes.old) self.old }
-        ensures places { Places (line_answer result line.new) self.old.input.position self.new.input.position self.old.input.size }
+        requires { FitsBytes (B.view bytes.old) self.old }
+        ensures places { Places (line_answer result line.new)
+            self.old.input.position self.new.input.position self.old.input.size }
         ensures input { self.new.input ≡ moved_to self.new.input.position self.old.input }
-        ensures told { IsTrue (B.tells bytes.old) → GivesLine (line_answer result line.new) (rest (B.bytes bytes.old) self.old.input) (rest (B.bytes bytes.old) self.new.input) self.old.input.position self.new.input.position }
-        ensures fits { FitsBytes (B.count bytes.new) (B.length_of bytes.new) (B.tells bytes.new) (B.bytes bytes.new) self.new }
+        ensures line { ReadsLine (B.view bytes.old) (line_answer result line.new) self.old.input self.new.input }
+        ensures fits { FitsBytes (B.view bytes.new) self.new }
         ensures pieces { ReadsPieces B.goes_by self.old.input bytes.old bytes.new }
-        ensures goes { B.goes_on bytes.old bytes.new }
-        ensures cause { HasBytesCause (B.faults bytes.old) (B.faults bytes.new) (B.mount bytes.old) (B.gone bytes.new) (B.wanted bytes.old) (B.wanted bytes.new) (line_refusal result) }
+        ensures cause { HasBytesCause (B.view bytes.old) (B.view bytes.new) (line_refusal result) }
     {
         let at = self.pos();
         line.at = at;
@@ -321,18 +320,17 @@ impl LineReader {
         }
     }
 
-    /// The next line; None exactly where the input has ended. `TooLong` comes exactly where the line that begins here has
-    /// more than 16,777,216 bytes, its end counted, and `Unended` exactly where the input ends inside it and it has at
-    /// most as many. After any refusal the reader stands at that line's start, so that the next call reads it again.
+    /// The next line; None exactly where the input has ended. `TooLong` comes exactly where the line that begins here
+    /// has more than 16,777,216 bytes, its end counted, and `Unended` exactly where the input ends inside it and it has
+    /// at most as many. After any refusal the reader stands at that line's start, so that the next call reads it again.
     pub fn next_line<B: FileBytes>(&mut self, bytes: &mut B) -> Result<Option<Line>, LineError>
-        requires { FitsBytes (B.count bytes.old) (B.length_of bytes.old) (B.tells bytes.old) (B.bytes bytes.old) self.old }
+        requires { FitsBytes (B.view bytes.old) self.old }
         ensures places { Places result self.old.input.position self.new.input.position self.old.input.size }
         ensures input { self.new.input ≡ moved_to self.new.input.position self.old.input }
-        ensures told { IsTrue (B.tells bytes.old) → GivesLine result (rest (B.bytes bytes.old) self.old.input) (rest (B.bytes bytes.old) self.new.input) self.old.input.position self.new.input.position }
-        ensures fits { FitsBytes (B.count bytes.new) (B.length_of bytes.new) (B.tells bytes.new) (B.bytes bytes.new) self.new }
+        ensures line { ReadsLine (B.view bytes.old) result self.old.input self.new.input }
+        ensures fits { FitsBytes (B.view bytes.new) self.new }
         ensures pieces { ReadsPieces B.goes_by self.old.input bytes.old bytes.new }
-        ensures goes { B.goes_on bytes.old bytes.new }
-        ensures cause { HasBytesCause (B.faults bytes.old) (B.faults bytes.new) (B.mount bytes.old) (B.gone bytes.new) (B.wanted bytes.old) (B.wanted bytes.new) (line_refusal result) }
+        ensures cause { HasBytesCause (B.view bytes.old) (B.view bytes.new) (line_refusal result) }
     {
         let mut line = Line {
             at: 0,

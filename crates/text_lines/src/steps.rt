@@ -20,7 +20,8 @@ pub fn take_step(bytes: &[u8], slash: bool, content: &mut Text) -> Result<Step, 
     requires { 0 < length bytes.now }
     ensures some { IfOk result (λ s. 0 < s.used) }
     ensures inside { IfOk result (λ s. s.used ≤ length bytes.now) }
-    ensures lands { (u : List ℕ) → IfOk result (λ s. Lands s.ended slash s.slash content.old content.new s.used (bytes.now ++ u) (drop s.used bytes.now ++ u)) }
+    ensures lands { (u : List ℕ) → IfOk result (λ s. Lands s.ended slash s.slash content.old content.new s.used
+        (bytes.now ++ u) (drop s.used bytes.now ++ u)) }
 {
     if slash {
         content.push(bytes[0])?;
@@ -56,9 +57,9 @@ pub fn take_step(bytes: &[u8], slash: bool, content: &mut Text) -> Result<Step, 
 /// How many bytes `take_near` looks at.
 const NEAR: usize = 32;
 
-/// Puts the content of the first line behind `content`, where it ends within the first 32 bytes and has no backslash, and
-/// says how many bytes it used; None, with nothing done, for any other line. Most lines are so short, and this way costs
-/// less for each than `take_step` does.
+/// Puts the content of the first line behind `content`, where it ends within the first 32 bytes and has no backslash,
+/// and says how many bytes it used; None, with nothing done, for any other line. Most lines are so short, and this way
+/// costs less for each than `take_step` does.
 pub fn take_near(bytes: &[u8], content: &mut Text) -> Result<Option<usize>, AllocError>
     ensures { IfOk result (λ o. TakesNear o content.old content.new bytes.now) }
 {

@@ -8,7 +8,8 @@ ghost use Rattle.text_lines.specs.Words.{number, is_checksum};
 /// The value of at most 10 decimal digits; None where another byte stands among them.
 fn value_of(digits: &[u8]) -> Option<u64>
     requires { length digits.now ≤ 10 }
-    ensures { result ≡ (if list_all is_ascii_digit digits.now then Some (number_from_digits 10 (map digit_value digits.now)) else None) }
+    ensures { result ≡ (if list_all is_ascii_digit digits.now
+        then Some (number_from_digits 10 (map digit_value digits.now)) else None) }
 {
     let mut value: u64 = 0;
     for digit in digits {

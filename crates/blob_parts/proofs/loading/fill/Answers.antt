@@ -12,9 +12,9 @@ loop-done-preserved g c =
       search rules,
       search rules,
       λ tells. grown_front c.loop-done.out c.read_blob.new.out (blob_bytes g.A.Archive.blobs c.args.blob) c.loop-done.done c.in-Ok.count _ (search rules) (search rules) (c.loop-done.invariant.3 tells) (more.bytes tells),
-      took_more _ _ _ c.args.blob c.loop-done.done c.in-Ok.count c.loop-done.invariant.4 more.taken,
+      took_more _ _ _ c.args.blob c.loop-done.done c.in-Ok.count c.loop-done.invariant.4 more.reads,
     )
 
-pub returns-in-Err-clause-taken : goal.returns-in-Err-clause-taken
-returns-in-Err-clause-taken g c =
-    took_front _ _ _ (places c.args.blob 0 (length c.args.out.now)) (places c.args.blob 0 c.loop-done.done) c.loop-done.done (c.in-Err.ensures.untaken (search rules)) (places_front c.args.blob 0 c.loop-done.done (length c.args.out.now) (search rules)) c.loop-done.invariant.4
+pub returns-in-Err-clause-reads : goal.returns-in-Err-clause-reads
+returns-in-Err-clause-reads g c =
+    took_front _ _ _ (places c.args.blob 0 (length c.args.out.now)) (places c.args.blob 0 c.loop-done.done) c.loop-done.done (c.in-Err.ensures.unread (search rules)) (places_front c.args.blob 0 c.loop-done.done (length c.args.out.now) (search rules)) c.loop-done.invariant.4

@@ -12,10 +12,10 @@ loop-done-preserved g c =
       search rules,
       search rules,
       λ tells. grown c.loop-done.out c.read_some.new.out (content g.A.Archive.blobs c.args.table.now.number c.args.file) c.loop-done.done c.in-Ok.count c.args.at _ (search rules) (search rules) (c.loop-done.invariant.3 tells) (more.bytes tells),
-      λ tells. took_slice _ _ _ (content_places g.A.Archive.blobs c.args.table.now.number c.args.file) c.args.at c.loop-done.done c.in-Ok.count (c.loop-done.invariant.4 tells) (more.taken tells),
+      λ tells. took_slice _ _ _ (content_places g.A.Archive.blobs c.args.table.now.number c.args.file) c.args.at c.loop-done.done c.in-Ok.count (c.loop-done.invariant.4 tells) (more.reads tells),
     )
 
-pub returns-in-Err-clause-taken : goal.returns-in-Err-clause-taken
-returns-in-Err-clause-taken g c tells =
+pub returns-in-Err-clause-reads : goal.returns-in-Err-clause-reads
+returns-in-Err-clause-reads g c tells =
     let places = content_places g.A.Archive.blobs c.args.table.now.number c.args.file in
-    took_front _ _ _ (slice_of places c.args.at (length c.args.out.now)) (slice_of places c.args.at c.loop-done.done) c.loop-done.done (c.in-Err.ensures.untaken (search rules)) (take-take c.loop-done.done (length c.args.out.now) _ (search rules)) (c.loop-done.invariant.4 tells)
+    took_front _ _ _ (slice_of places c.args.at (length c.args.out.now)) (slice_of places c.args.at c.loop-done.done) c.loop-done.done (c.in-Err.ensures.unread (search rules)) (take-take c.loop-done.done (length c.args.out.now) _ (search rules)) (c.loop-done.invariant.4 tells)

@@ -7,6 +7,6 @@ abbrev pub invariant-loop-k : goal.invariant-loop-k
 invariant-loop-k g l =
     (length l.blobs.items ≡ l.k)
     × (IsTrue g.A.Archive.tells → FoundUpTo g.A.Archive.blobs l.file l.k l.blobs.items)
-    × (g.S.BlobSource.faults l.fn.source ≤ g.S.BlobSource.faults l.source)
-    × (g.S.BlobSource.taken l.source ≡ g.S.BlobSource.taken l.fn.source)
-    × (g.S.BlobSource.which l.source ≡ g.S.BlobSource.which l.fn.source)
+    × ((g.S.BlobSource.view l.fn.source).faults ≤ (g.S.BlobSource.view l.source).faults)
+    × ((g.S.BlobSource.view l.source).reads ≡ (g.S.BlobSource.view l.fn.source).reads)
+    × ((g.S.BlobSource.view l.source).identity ≡ (g.S.BlobSource.view l.fn.source).identity)

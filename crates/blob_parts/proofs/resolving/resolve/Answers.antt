@@ -12,7 +12,7 @@ of-requires g c =
     let count : length (map parts_in c.in-Ok.entries.items) ≡ length c.args.manifest.now.files =
     omega (arith, length-map c.in-Ok.entries.items parts_in, c.in-Ok.ensures.count) in
     table_is g.A.Archive.tells g.A.Archive.blobs c.args.number c.args.manifest.now (map parts_in c.in-Ok.entries.items)
-    c.requires.small c.requires.told c.lesson.ensures count c.in-Ok.ensures.entries
+    c.requires.small c.requires.whole c.lesson.ensures count c.in-Ok.ensures.entries
     (λ tells. let own = c.in-Ok-size_files.ensures.sized tells in let same = rw c.deref.ensures.value at own in same)
 
 pub returns-in-Ok-size_files-clause-files : goal.returns-in-Ok-size_files-clause-files

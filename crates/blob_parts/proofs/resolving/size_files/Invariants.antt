@@ -9,6 +9,6 @@ abbrev pub invariant-loop-i : goal.invariant-loop-i
 invariant-loop-i g l =
     (IsTrue g.A.Archive.tells → first_of (wrong_in g.A.Archive.blobs) (drop l.i l.manifest.files) ≡ first_of (wrong_in g.A.Archive.blobs) l.manifest.files)
     × (IsTrue g.A.Archive.tells → AllSized g.A.Archive.blobs l.i l.manifest.files (map parts_in l.entries))
-    × (g.S.BlobSource.faults l.fn.source ≤ g.S.BlobSource.faults l.source)
-    × (g.S.BlobSource.taken l.source ≡ g.S.BlobSource.taken l.fn.source)
-    × (g.S.BlobSource.which l.source ≡ g.S.BlobSource.which l.fn.source)
+    × ((g.S.BlobSource.view l.fn.source).faults ≤ (g.S.BlobSource.view l.source).faults)
+    × ((g.S.BlobSource.view l.source).reads ≡ (g.S.BlobSource.view l.fn.source).reads)
+    × ((g.S.BlobSource.view l.source).identity ≡ (g.S.BlobSource.view l.fn.source).identity)

@@ -6,6 +6,6 @@ use Rattle.blob_parts.proofs.resolving.size_parts.Given as goal
 abbrev pub invariant-loop-k : goal.invariant-loop-k
 invariant-loop-k g l =
     (IsTrue g.A.Archive.tells → SizedUpTo g.A.Archive.blobs l.file l.blobs l.k)
-    × (g.S.BlobSource.faults l.fn.source ≤ g.S.BlobSource.faults l.source)
-    × (g.S.BlobSource.taken l.source ≡ g.S.BlobSource.taken l.fn.source)
-    × (g.S.BlobSource.which l.source ≡ g.S.BlobSource.which l.fn.source)
+    × ((g.S.BlobSource.view l.fn.source).faults ≤ (g.S.BlobSource.view l.source).faults)
+    × ((g.S.BlobSource.view l.source).reads ≡ (g.S.BlobSource.view l.fn.source).reads)
+    × ((g.S.BlobSource.view l.source).identity ≡ (g.S.BlobSource.view l.fn.source).identity)

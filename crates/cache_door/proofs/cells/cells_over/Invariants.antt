@@ -7,6 +7,6 @@ use Rattle.cache_door.proofs.cells.cells_over.Given as goal
 
 abbrev pub invariant-loop-frame : goal.invariant-loop-frame
 invariant-loop-frame g l = record {
-  cells : l.cells.items ≡ map (cell_over g.F.Frame.faults g.F.Frame.size g.F.Frame.tells g.F.Frame.steady g.F.Frame.bytes l.config.range) l.yielded;
+  cells : l.cells.items ≡ map (cell_over g.F.Frame.view l.config.range) l.yielded;
   good : All (λ x. IsGood g.A.Archive.tells (content g.A.Archive.blobs) x) l.cells.items;
 }

@@ -1,5 +1,5 @@
 use Rattle.std.proofs.Common.{◌≡◌, ◌≤◌, ◌-◌, Some}
-use Rattle.cache_reader.specs.Parts.{line}
+use Rattle.cache_reader.specs.Parts.{read_setting}
 use Rattle.cache_reader.specs.Going.{moment}
 use Rattle.cache_reader.specs.Filling.{Filling}
 use Rattle.std.specs.Prelude.{IsTrue}
@@ -13,14 +13,13 @@ invariant-loop-at g l = record {
   low : l.gap.start ≤ l.at;
   high : l.at ≤ l.gap.end;
   stays : g.D.CacheDoor.stays l.fn.door l.door;
-  hold : g.D.CacheDoor.hold l.door ≡ record (g.D.CacheDoor.hold l.fn.door) { upto = l.at };
-  same : g.S.BlobSource.which l.source ≡ g.S.BlobSource.which l.fn.source;
-  kept : SamePolicy (g.D.CacheDoor.state l.fn.door) (g.D.CacheDoor.state l.door);
-  stored : IsTrue g.A.Archive.tells → (s : State) → g.D.CacheDoor.state l.fn.door ≡ Some s
-      → StoredTo (line g.A.Archive.tells g.A.Archive.blobs l.table l.setting) (g.D.CacheDoor.actor l.fn.door) l.file l.base l.gap.start l.at l.gap.end s (g.D.CacheDoor.state l.door);
-  filled : Filling (line g.A.Archive.tells g.A.Archive.blobs l.table l.setting) l.file l.base l.gap.start l.at l.fn.report l.report
-      (moment (g.S.BlobSource.faults l.fn.source) (g.S.BlobSource.taken l.fn.source) (g.D.CacheDoor.frame_faults l.fn.door) (g.D.CacheDoor.seen_gone l.fn.door) (g.D.CacheDoor.unmounted l.fn.door) (g.D.CacheDoor.work l.fn.door) (g.D.CacheDoor.state l.fn.door))
-      (moment (g.S.BlobSource.faults l.source) (g.S.BlobSource.taken l.source) (g.D.CacheDoor.frame_faults l.door) (g.D.CacheDoor.seen_gone l.door) (g.D.CacheDoor.unmounted l.door) (g.D.CacheDoor.work l.door) (g.D.CacheDoor.state l.door));
+  hold : (g.D.CacheDoor.view l.door).hold ≡ record (g.D.CacheDoor.view l.fn.door).hold { upto = l.at };
+  kept : SamePolicy (g.D.CacheDoor.view l.fn.door).state (g.D.CacheDoor.view l.door).state;
+  stored : IsTrue g.A.Archive.tells → (s : State) → (g.D.CacheDoor.view l.fn.door).state ≡ Some s
+      → StoredTo (read_setting g.A.Archive.tells g.A.Archive.blobs l.table l.setting) (g.D.CacheDoor.view l.fn.door).actor l.file l.base l.gap.start l.at l.gap.end s (g.D.CacheDoor.view l.door).state;
+  filled : Filling (read_setting g.A.Archive.tells g.A.Archive.blobs l.table l.setting) l.file l.base l.gap.start l.at l.fn.report l.report
+      (moment (g.S.BlobSource.view l.fn.source) (g.D.CacheDoor.view l.fn.door))
+      (moment (g.S.BlobSource.view l.source) (g.D.CacheDoor.view l.door));
 }
 
 abbrev pub decreases-loop-at : goal.decreases-loop-at

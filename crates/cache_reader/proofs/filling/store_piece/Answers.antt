@@ -1,6 +1,6 @@
 use Rattle.std.proofs.Common.{◌≡◌, ◌∙◌, ℕ, List, true, ap, sym}
 use Rattle.std.specs.Prelude.{option_map}
-use Rattle.cache_door.specs.Machine.{State, store, hold_at}
+use Rattle.cache_door.specs.Doors.{storing}
 use Rattle.cache_reader.proofs.Rooms.{policy_same}
 use Rattle.cache_reader.proofs.States.{stored_kept, on_ok}
 use Rattle.cache_reader.proofs.filling.store_piece.Goals as goal
@@ -14,6 +14,6 @@ returns-clause-kept g c = stored_kept c.store.result _ _ _ _ c.store.ensures.sta
 pub returns-clause-stored : goal.returns-clause-stored
 returns-clause-stored g c is told =
     let all : c.is_ok.result ≡ true = (cc) in
-    let a = g.D.CacheDoor.actor c.args.door.now in
+    let a = (g.D.CacheDoor.view c.args.door.now).actor in
     on_ok c.store.result _ c.store.ensures.state (sym c.is_ok.ensures.value ∙ all)
-    ∙ ap (λ (l : List ℕ). option_map (λ (s : State). store a (hold_at s a) l s) (g.D.CacheDoor.state c.args.door.now)) (c.in_ok-piece.ensures.bytes told)
+    ∙ ap (λ (l : List ℕ). option_map (storing l a) (g.D.CacheDoor.view c.args.door.now).state) (c.in_ok-piece.ensures.bytes told)

@@ -10,6 +10,6 @@ returns-clause-wanted g c =
 
 pub returns-clause-whole : goal.returns-clause-whole
 returns-clause-whole g c told =
-    let own = rw (← c.number.ensures.value) at (c.length.ensures.told told) in
+    let own = rw (← c.number.ensures.value) at (c.length.ensures.whole told) in
     has_length_of c.args.config.now (content g.A.Archive.blobs) c.number.result c.args.file c.region_of-region.result c.region_len-len.result c.length.result
     c.number.ensures.small (omega arith) own c.length.ensures.most c.requires.config c.args.part.start c.region_of-region.ensures.value (omega arith) c.region_len-len.ensures

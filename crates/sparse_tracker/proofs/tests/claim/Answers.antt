@@ -1,5 +1,4 @@
-use Rattle.std.proofs.Common.{◌≡◌, ◌∙◌, ap, arith}
-use Rattle.region_ranges.specs.declared.ranges.ByteRange.{ByteRange}
+use Rattle.std.proofs.Common.{◌∙◌, ap, arith}
 use Rattle.sparse_tracker.specs.ByteStates.{TrackerView, wait_for_range}
 use Rattle.sparse_tracker.proofs.tests.claim.Goals as goal
 

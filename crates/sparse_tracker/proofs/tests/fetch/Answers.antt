@@ -1,4 +1,4 @@
-use Rattle.std.proofs.Common.{◌≡◌, ◌∙◌, ap, arith, refl}
+use Rattle.std.proofs.Common.{◌∙◌, ap, arith, refl}
 use Rattle.sparse_tracker.specs.ByteStates.{TrackerView, progress}
 use Rattle.sparse_tracker.proofs.tests.fetch.Goals as goal
 

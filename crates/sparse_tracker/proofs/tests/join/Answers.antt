@@ -1,5 +1,4 @@
-use Rattle.std.proofs.Common.{◌≡◌, ◌∙◌, ap, arith}
-use Rattle.region_ranges.specs.declared.ranges.ByteRange.{ByteRange}
+use Rattle.std.proofs.Common.{◌∙◌, ap, arith}
 use Rattle.sparse_tracker.specs.ByteStates.{TrackerView, wait_if_pending}
 use Rattle.sparse_tracker.proofs.tests.join.Goals as goal
 

@@ -1,4 +1,4 @@
-use Rattle.std.proofs.Common.{◌≡◌, ◌∙◌, ap, refl}
+use Rattle.std.proofs.Common.{◌∙◌, ap, refl}
 use Rattle.sparse_tracker.specs.ByteStates.{TrackerView, fail}
 use Rattle.sparse_tracker.proofs.tests.lose.Goals as goal
 

@@ -16,7 +16,7 @@ invariant_of-result g c =
     let P : List (Option Hold) → Type 0 = λ h. IsKept g.A.Archive.tells (content g.A.Archive.blobs) (core_view config p made h c.in_ok-vec-2.field-0.items c.new-2.result) in
     let Q : List Bool → Type 0 = λ l. IsKept g.A.Archive.tells (content g.A.Archive.blobs) (core_view config p made (replicate c.args.actors None) l c.new-2.result) in
     subst P (sym holds) (subst Q (sym gone) (
-    made_kept g.F.Frame.faults g.F.Frame.size g.F.Frame.tells g.F.Frame.steady g.F.Frame.bytes config c.new-2.result c.args.actors c.args.frames.items c.requires.config c.requires.count c.requires.sizes c.requires.actors
+    made_kept g.F.Frame.view config c.new-2.result c.args.actors c.args.frames.items c.requires.config c.requires.count c.requires.sizes c.requires.actors
     p made c.in_ok-policy.ensures c.lesson.ensures.good c.in_ok-cells_over.ensures.cells c.in_ok-cells_over.ensures.good))
 
 pub returns-clause-state : goal.returns-clause-state
@@ -28,14 +28,14 @@ returns-clause-state g c =
     let gone : c.in_ok-vec-2.field-0.items ≡ replicate 4096 false = c.in_ok-vec-2.ensures.items_if_clones_equal (λ y h. search rules) in
     ap (λ (h : List (Option Hold)). state_of (core_view config p made h c.in_ok-vec-2.field-0.items c.new-2.result)) holds
     ∙ ap (λ (l : List Bool). state_of (core_view config p made (replicate c.args.actors None) l c.new-2.result)) gone
-    ∙ made_state g.F.Frame.faults g.F.Frame.size g.F.Frame.tells g.F.Frame.steady g.F.Frame.bytes config p c.new-2.result c.args.actors c.args.frames.items made c.in_ok-policy.ensures c.in_ok-cells_over.ensures.cells c.requires.sizes
+    ∙ made_state g.F.Frame.view config p c.new-2.result c.args.actors c.args.frames.items made c.in_ok-policy.ensures c.in_ok-cells_over.ensures.cells c.requires.sizes
 
 pub returns-clause-steady : goal.returns-clause-steady
 returns-clause-steady g c =
     ap (λ (l : List CellView). all_steady l) c.in_ok-cells_over.ensures.cells
-    ∙ over_steady g.F.Frame.faults g.F.Frame.size g.F.Frame.tells g.F.Frame.steady g.F.Frame.bytes c.args.config.now.range c.args.frames.items
+    ∙ over_steady g.F.Frame.view c.args.config.now.range c.args.frames.items
 
 pub returns-clause-faults : goal.returns-clause-faults
 returns-clause-faults g c =
     ap (λ (l : List CellView). all_faults l) c.in_ok-cells_over.ensures.cells
-    ∙ over_faults g.F.Frame.faults g.F.Frame.size g.F.Frame.tells g.F.Frame.steady g.F.Frame.bytes c.args.config.now.range c.args.frames.items
+    ∙ over_faults g.F.Frame.view c.args.config.now.range c.args.frames.items

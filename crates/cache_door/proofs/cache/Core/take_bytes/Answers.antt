@@ -14,25 +14,25 @@ pub copy-taken-requires-clause-len : goal.copy-taken-requires-clause-len
 copy-taken-requires-clause-len g c = let i = c.self.inside in copy_len (core_view i.config i.policy i.cells.items i.holds.items i.gone.items i.work) c.args.self.now c.self.view_is c.self.invariant c.args.actor c.index.result.now c.in-Some.hold c.index.ensures c.in-Some.is c.requires.actor c.index_mut-cell.result.now c.index_mut-cell.ensures.value _ c.requires.len
 
 pub invariant_of-self : goal.invariant_of-self
-invariant_of-self g c = let i = c.self.inside in seen_kept (core_view i.config i.policy i.cells.items i.holds.items i.gone.items i.work) c.args.self.now c.self.view_is c.self.invariant c.in-Some.hold.region (inside (core_view i.config i.policy i.cells.items i.holds.items i.gone.items i.work) c.args.self.now c.self.view_is c.self.invariant c.args.actor c.index.result.now c.in-Some.hold c.index.ensures c.in-Some.is c.requires.actor) c.index_mut-cell.result.now c.copy-taken.new.self c.index_mut-cell.ensures.value c.copy-taken.ensures.same c.copy-taken.ensures.frame c.take.new.self
+invariant_of-self g c = let i = c.self.inside in seen_kept (core_view i.config i.policy i.cells.items i.holds.items i.gone.items i.work) c.args.self.now c.self.view_is c.self.invariant c.in-Some.hold.region (inside (core_view i.config i.policy i.cells.items i.holds.items i.gone.items i.work) c.args.self.now c.self.view_is c.self.invariant c.args.actor c.index.result.now c.in-Some.hold c.index.ensures c.in-Some.is c.requires.actor) c.index_mut-cell.result.now c.copy-taken.new.self c.index_mut-cell.ensures.value c.copy-taken.ensures.same.same c.copy-taken.ensures.same.frame c.take.new.self
 
 pub returns-clause-state : goal.returns-clause-state
-returns-clause-state g c = let i = c.self.inside in seen_state (core_view i.config i.policy i.cells.items i.holds.items i.gone.items i.work) c.args.self.now c.self.view_is c.self.invariant c.in-Some.hold.region (inside (core_view i.config i.policy i.cells.items i.holds.items i.gone.items i.work) c.args.self.now c.self.view_is c.self.invariant c.args.actor c.index.result.now c.in-Some.hold c.index.ensures c.in-Some.is c.requires.actor) c.index_mut-cell.result.now c.copy-taken.new.self c.index_mut-cell.ensures.value c.copy-taken.ensures.same c.copy-taken.ensures.frame c.take.new.self
+returns-clause-state g c = let i = c.self.inside in seen_state (core_view i.config i.policy i.cells.items i.holds.items i.gone.items i.work) c.args.self.now c.self.view_is c.self.invariant c.in-Some.hold.region (inside (core_view i.config i.policy i.cells.items i.holds.items i.gone.items i.work) c.args.self.now c.self.view_is c.self.invariant c.args.actor c.index.result.now c.in-Some.hold c.index.ensures c.in-Some.is c.requires.actor) c.index_mut-cell.result.now c.copy-taken.new.self c.index_mut-cell.ensures.value c.copy-taken.ensures.same.same c.copy-taken.ensures.same.frame c.take.new.self
 
 pub returns-clause-answer : goal.returns-clause-answer
-returns-clause-answer g c n = let i = c.self.inside in copy_answer (core_view i.config i.policy i.cells.items i.holds.items i.gone.items i.work) c.args.self.now c.self.view_is c.self.invariant c.args.actor c.index.result.now c.in-Some.hold c.index.ensures c.in-Some.is c.requires.actor c.index_mut-cell.result.now c.index_mut-cell.ensures.value c.copy-taken.result c.copy-taken.ensures.waiting c.copy-taken.ensures.failed c.lesson.ensures.settled n
+returns-clause-answer g c = let i = c.self.inside in copy_answer (core_view i.config i.policy i.cells.items i.holds.items i.gone.items i.work) c.args.self.now c.self.view_is c.self.invariant c.args.actor c.index.result.now c.in-Some.hold c.index.ensures c.in-Some.is c.requires.actor c.index_mut-cell.result.now c.index_mut-cell.ensures.value c.copy-taken.result c.copy-taken.ensures.answer c.lesson.ensures.settled
 
 pub returns-clause-copied : goal.returns-clause-copied
-returns-clause-copied g c told e = let i = c.self.inside in copy_bytes (core_view i.config i.policy i.cells.items i.holds.items i.gone.items i.work) c.args.self.now c.self.view_is c.self.invariant c.args.actor c.index.result.now c.in-Some.hold c.index.ensures c.in-Some.is c.requires.actor c.index_mut-cell.result.now c.index_mut-cell.ensures.value c.copy-taken.new.out told (λ t. c.copy-taken.ensures.bytes t e)
+returns-clause-copied g c e told = let i = c.self.inside in copy_bytes (core_view i.config i.policy i.cells.items i.holds.items i.gone.items i.work) c.args.self.now c.self.view_is c.self.invariant c.args.actor c.index.result.now c.in-Some.hold c.index.ensures c.in-Some.is c.requires.actor c.index_mut-cell.result.now c.index_mut-cell.ensures.value c.copy-taken.new.out told (c.copy-taken.ensures.bytes e)
 
 pub returns-clause-bytes : goal.returns-clause-bytes
-returns-clause-bytes g c archive told e = let i = c.self.inside in copy_content (core_view i.config i.policy i.cells.items i.holds.items i.gone.items i.work) c.args.self.now c.self.view_is c.self.invariant c.args.actor c.index.result.now c.in-Some.hold c.index.ensures c.in-Some.is c.requires.actor c.index_mut-cell.result.now c.index_mut-cell.ensures.value c.copy-taken.new.out archive told (λ t. c.copy-taken.ensures.content archive t e)
+returns-clause-bytes g c e archive told = let i = c.self.inside in copy_content (core_view i.config i.policy i.cells.items i.holds.items i.gone.items i.work) c.args.self.now c.self.view_is c.self.invariant c.args.actor c.index.result.now c.in-Some.hold c.index.ensures c.in-Some.is c.requires.actor c.index_mut-cell.result.now c.index_mut-cell.ensures.value c.copy-taken.new.out archive told (c.copy-taken.ensures.content e)
 
 pub returns-clause-fault : goal.returns-clause-fault
-returns-clause-fault g c e = let i = c.self.inside in seen_fault (core_view i.config i.policy i.cells.items i.holds.items i.gone.items i.work) c.args.self.now c.self.view_is c.self.invariant c.in-Some.hold.region (inside (core_view i.config i.policy i.cells.items i.holds.items i.gone.items i.work) c.args.self.now c.self.view_is c.self.invariant c.args.actor c.index.result.now c.in-Some.hold c.index.ensures c.in-Some.is c.requires.actor) c.index_mut-cell.result.now c.copy-taken.new.self c.index_mut-cell.ensures.value c.copy-taken.ensures.same c.copy-taken.ensures.frame (c.copy-taken.ensures.fault e)
-
-pub returns-clause-steady : goal.returns-clause-steady
-returns-clause-steady g c all = let i = c.self.inside in c.copy-taken.ensures.steady (seen_steady (core_view i.config i.policy i.cells.items i.holds.items i.gone.items i.work) c.args.self.now c.self.view_is c.self.invariant c.in-Some.hold.region (inside (core_view i.config i.policy i.cells.items i.holds.items i.gone.items i.work) c.args.self.now c.self.view_is c.self.invariant c.args.actor c.index.result.now c.in-Some.hold c.index.ensures c.in-Some.is c.requires.actor) c.index_mut-cell.result.now c.copy-taken.new.self c.index_mut-cell.ensures.value c.copy-taken.ensures.same c.copy-taken.ensures.frame all)
+returns-clause-fault g c e = let i = c.self.inside in record {
+  rose = seen_fault (core_view i.config i.policy i.cells.items i.holds.items i.gone.items i.work) c.args.self.now c.self.view_is c.self.invariant c.in-Some.hold.region (inside (core_view i.config i.policy i.cells.items i.holds.items i.gone.items i.work) c.args.self.now c.self.view_is c.self.invariant c.args.actor c.index.result.now c.in-Some.hold c.index.ensures c.in-Some.is c.requires.actor) c.index_mut-cell.result.now c.copy-taken.new.self c.index_mut-cell.ensures.value c.copy-taken.ensures.same.same c.copy-taken.ensures.same.frame (c.copy-taken.ensures.fault e).rose;
+  unsteady = λ all. (c.copy-taken.ensures.fault e).unsteady (seen_steady (core_view i.config i.policy i.cells.items i.holds.items i.gone.items i.work) c.args.self.now c.self.view_is c.self.invariant c.in-Some.hold.region (inside (core_view i.config i.policy i.cells.items i.holds.items i.gone.items i.work) c.args.self.now c.self.view_is c.self.invariant c.args.actor c.index.result.now c.in-Some.hold c.index.ensures c.in-Some.is c.requires.actor) c.index_mut-cell.result.now c.copy-taken.new.self c.index_mut-cell.ensures.value c.copy-taken.ensures.same.same c.copy-taken.ensures.same.frame all);
+}
 
 pub returns-clause-later : goal.returns-clause-later
-returns-clause-later g c = let i = c.self.inside in seen_later (core_view i.config i.policy i.cells.items i.holds.items i.gone.items i.work) c.args.self.now c.self.view_is c.self.invariant c.in-Some.hold.region (inside (core_view i.config i.policy i.cells.items i.holds.items i.gone.items i.work) c.args.self.now c.self.view_is c.self.invariant c.args.actor c.index.result.now c.in-Some.hold c.index.ensures c.in-Some.is c.requires.actor) c.index_mut-cell.result.now c.copy-taken.new.self c.index_mut-cell.ensures.value c.copy-taken.ensures.same c.copy-taken.ensures.frame c.take.new.self
+returns-clause-later g c = let i = c.self.inside in seen_later (core_view i.config i.policy i.cells.items i.holds.items i.gone.items i.work) c.args.self.now c.self.view_is c.self.invariant c.in-Some.hold.region (inside (core_view i.config i.policy i.cells.items i.holds.items i.gone.items i.work) c.args.self.now c.self.view_is c.self.invariant c.args.actor c.index.result.now c.in-Some.hold c.index.ensures c.in-Some.is c.requires.actor) c.index_mut-cell.result.now c.copy-taken.new.self c.index_mut-cell.ensures.value c.copy-taken.ensures.same.same c.copy-taken.ensures.same.frame c.take.new.self

@@ -56,3 +56,6 @@ returns-clause-leaving c =
     let end = drop_end c.loop-region.region c.loop-region.self.tags (omega (arith, c.loop-region.invariant.1, len, f.tags.ok.0)) in
     let done : c.loop-region.self ≡ clear c.args.manifest old = rw end at c.loop-region.invariant.0 in
     ap (λ (p : PolicyView). p.leaving) done ∙ leaving_all (regions_from 0 (is_of c.args.manifest) old.tags) old
+
+pub returns-clause-count : goal.returns-clause-count
+returns-clause-count c = c.loop-region.invariant.1

@@ -10,3 +10,6 @@ returns-clause-candidates c r h =
     let f = c.self.inside in
     let t = rw (← c.self.view_is, candidate_times r f.lists.lists) at h in
     rw (← c.self.view_is) (some_is (tag_at (view_of f) r) (omega (arith, t, c.self.invariant.good.mapped r)))
+
+pub returns-clause-listed : goal.returns-clause-listed
+returns-clause-listed c r = rw (← c.self.view_is) (candidate_times r c.self.inside.lists.lists)

@@ -39,3 +39,6 @@ returns-clause-tags c j =
     let f = c.self.inside in
     let front = rw (← c.self.view_is) at c.requires.front in
     rw (← c.self.view_is, c.pack.ensures.value) (set_at f.tags.items c.args.region j (Some (tag_of c.args.key)) (front_region (view_of f) c.self.invariant.good c.args.region (tag_of c.args.key) front))
+
+pub returns-clause-count : goal.returns-clause-count
+returns-clause-count c = rw (← c.self.view_is) (length-set c.self.inside.tags.items c.args.region (Some c.pack.result))

@@ -30,3 +30,6 @@ returns-clause-tags c j =
     let f = c.self.inside in
     let is = rw (← c.self.view_is) at c.requires in
     rw (← c.self.view_is) (set_at f.tags.items c.args.region j None (region_is (view_of f) c.self.invariant.good c.args.region is))
+
+pub returns-clause-count : goal.returns-clause-count
+returns-clause-count c = rw (← c.self.view_is) (length-set c.self.inside.tags.items c.args.region None)

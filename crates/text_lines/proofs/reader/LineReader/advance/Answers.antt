@@ -8,18 +8,17 @@ returns-clause-fits g c =
     let B = g.B.FileBytes in
     let now = c.more.new.bytes in
     let le = rw c.unread.ensures at c.in_ok-step.ensures.inside in
-    rw c.skip.ensures (skip_fits (B.count now) (B.length_of now) (B.tells now) (B.bytes now) c.more.new.self c.in_ok-step.step.used le c.in-Ok-true.ensures.fits)
+    rw c.skip.ensures (skip_fits (B.view now) c.more.new.self c.in_ok-step.step.used le c.in-Ok-true.ensures.fits)
 
-pub returns-clause-told : goal.returns-clause-told
-returns-clause-told g c = λ t.
+pub returns-clause-steps : goal.returns-clause-steps
+returns-clause-steps g c = λ t.
     let B = g.B.FileBytes in
-    let laws = g.met.B.FileBytes in
-    let goes = c.in-Ok-true.ensures.goes in
+    let later = c.in-Ok-true.ensures.cause.files in
     let fits = c.in-Ok-true.ensures.fits in
     let r = c.more.new.self in
-    let text = window_bytes (B.bytes c.args.bytes.now) r.input in
+    let text = window_bytes (B.view c.args.bytes.now).bytes r.input in
     let le = rw c.unread.ensures at c.in_ok-step.ensures.inside in
-    let ahead = rw (laws.same_bytes _ _ goes) at (fits.ahead (laws.same_tells _ _ goes ∙ t)) in
+    let ahead = rw (later.bytes) at (fits.ahead (later.tells ∙ t)) in
     let lands = rw c.unread.ensures at (c.in_ok-step.ensures.lands (drop (r.input.position + length r.ahead) text)) in
     let after = rest_after r.input.position c.in_ok-step.step.used r.ahead text le ahead in
     rw (sym c.in-Ok-true.ensures.input, c.skip.ensures, sym ahead, sym after) lands

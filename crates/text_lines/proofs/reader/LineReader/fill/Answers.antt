@@ -8,7 +8,6 @@ returns-in-Ok-clause-fits g c =
     let i = c.self.inside in
     let inv = c.self.invariant in
     let B = g.B.FileBytes in
-    let laws = g.met.B.FileBytes in
     let read = c.in-Ok.ensures in
     let before = c.args.bytes.now in
     let now = c.read_piece.new.bytes in
@@ -17,5 +16,5 @@ returns-in-Ok-clause-fits g c =
     let at : i.input.position ≡ i.place = omega (arith, inv.stands, same) in
     let within : i.place + c.in-Ok.count ≤ i.input.size = omega (arith, read.count, inv.ends, at) in
     let len : length c.read_piece.new.buffer ≡ i.buffer.len = omega (arith, read.len, c.as_mut_slice.ensures.len, ap length c.as_mut_slice.ensures.value, i.buffer.ok.0) in
-    filled_fits (B.count now) (B.length_of now) (B.tells now) (B.tells before) (B.bytes now) (B.bytes before) i.input c.read_piece.new.input i.place c.in-Ok.count c.read_piece.new.buffer _ (with_items_is i.buffer c.read_piece.new.buffer len)
-    (laws.same_tells _ _ read.goes) (laws.same_bytes _ _ read.goes) read.moved at read.inside within read.fits read.told
+    filled_fits (B.view before) (B.view now) i.input c.read_piece.new.input i.place c.in-Ok.count c.read_piece.new.buffer _ (with_items_is i.buffer c.read_piece.new.buffer len)
+    read.cause.files read.moved at read.inside within read.fits read.bytes

@@ -5,7 +5,6 @@ use Rattle.text_lines.proofs.reader.LineReader.next_in.Goals as goal
 
 pub returns-in-Err-clause-fits : goal.returns-in-Err-clause-fits
 returns-in-Err-clause-fits g c =
-    let B = g.B.FileBytes in
     let now = c.read_line.new.bytes in
     let le : c.pos-at.result ≤ c.read_line.new.self.input.size = omega (arith, c.pos-at.ensures, c.requires.inside, ap (λ (w : Window). w.size) c.in-Err.ensures.input) in
-    rw c.back.ensures (back_fits (B.count now) (B.length_of now) (B.tells now) (B.bytes now) c.read_line.new.self c.pos-at.result le c.in-Err.ensures.fits)
+    rw c.back.ensures (back_fits (g.B.FileBytes.view now) c.read_line.new.self c.pos-at.result le c.in-Err.ensures.fits)

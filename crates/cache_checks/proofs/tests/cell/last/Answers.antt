@@ -1,0 +1,18 @@
+use Rattle.std.proofs.Common.{arith, ◌≡◌, ◌∙◌, ◌-◌, sym, ap, refl, ℕ}
+use Rattle.std.specs.Prelude.{length, min}
+use Rattle.blob_parts.specs.Content.{content}
+use Rattle.sample_archive.specs.Sample.{sample}
+use Rattle.cache_checks.specs.CellSteps.{short}
+use Rattle.cache_reader.proofs.Wants.{has_length}
+use Rattle.cache_checks.proofs.tests.cell.last.Goals as goal
+
+pub assign-requires-clause-whole : goal.assign-requires-clause-whole
+assign-requires-clause-whole g c = rw (c.new-cell.ensures, c.requires.size) (λ h.
+    let e = ap (λ (m : ℕ). length (content sample m 0)) (sym c.requires.table.0) ∙ c.length-length.ensures.told h in
+    c.region_len.ensures ∙ ap (λ (n : ℕ). min 8192 (n - 8192)) (sym e) ∙ sym (has_length (content sample) 2 0 1 8192 (omega arith) (omega arith) (omega arith)))
+
+pub returns : goal.returns
+unfolding short
+returns g c =
+    let len : c.region_len.result ≡ 1808 = c.region_len.ensures ∙ ap (λ (n : ℕ). min 8192 (n - 8192)) (c.length-length.ensures.value ∙ c.requires.table.2) in
+    rw (c.assign.ensures, c.new-cell.ensures, len) (record { region = refl; size = c.requires.size; range = refl })

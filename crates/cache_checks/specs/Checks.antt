@@ -1,0 +1,12 @@
+-- What the tests say of a frame that fails, of a core, and of a cell step by step.
+use Rattle.std.specs.Prelude.{◌≡◌, ℕ, true, false, List, length}
+use Rattle.region_ranges.specs.declared.keys.Config.{Config}
+use Rattle.cache_outside.specs.Frames.{FrameView}
+use Rattle.cache_door.specs.Cores.{CoreView}
+
+abbrev pub faulty_view : List ℕ → ℕ → FrameView
+faulty_view bytes faults = record { size = length bytes; tells = true; steady = false; faults = faults; bytes = bytes }
+
+-- a core of two actors with these settings
+abbrev pub IsCore : Config → CoreView → Type 0
+IsCore config core = (core.config ≡ config) × (length core.holds ≡ 2)

@@ -1,0 +1,7 @@
+mod another_length;
+mod cell;
+mod door;
+mod faulty;
+mod reader;
+mod rows;
+mod sample;

@@ -1,5 +1,0 @@
-use Rattle.region_cell.specs.Example.{few_manifests}
-use Rattle.region_cell.proofs.tests.source.Goals as goal
-
-pub new-requires-2-clause-few_manifests : goal.new-requires-2-clause-few_manifests
-new-requires-2-clause-few_manifests c = rw c.in_ok-blobs.ensures few_manifests
