@@ -10,7 +10,7 @@ use Rattle.doc_bits.specs.Places.{zip_with, and_not}
 use Rattle.doc_bits.specs.Counts.{counted}
 use Rattle.query_lang.specs.Trees.{Tree, Trees, no_trees, tree, compound, tree_of, trees_of}
 use Rattle.query_lang.specs.declared.query.Query.{Query}
-use Rattle.shard_search.specs.Matches.{matches, all_match, some_match, count_match, is_empty, wanted}
+use Rattle.shard_search.specs.Matches.{matches, all_match, some_match, count_match, is_empty, needed}
 use Rattle.shard_search.specs.Sets.{each_of}
 use Rattle.shard_search.proofs.ListLemmas.{drop_get}
 use Rattle.shard_search.proofs.SetLemmas.{zip_join, zip_unit, and_is, and_true, drop_is, drop_none, with_count, count_is, plus_zero, combined, map_same}
@@ -94,7 +94,7 @@ map_twice g f (x ∷ xs) = ap (λ t. g (f x) ∷ t) (map_twice g f xs)
 
 -- the set of a `bool`
 pub bool_set : (has : List ℕ → List ℕ → ℕ → Bool) (q : Tree) (must filter should must_not : Trees) (minimum : Option ℕ) (docs least : ℕ) (all m f n bits : List Bool)
-    → q ≡ compound must filter should must_not minimum → least ≡ wanted must filter should minimum → all ≡ replicate docs true
+    → q ≡ compound must filter should must_not minimum → least ≡ needed must filter should minimum → all ≡ replicate docs true
     → m ≡ zip_with ◌&&◌ all (each_of (all_match has must) docs)
     → f ≡ zip_with ◌&&◌ m (each_of (all_match has filter) docs)
     → n ≡ zip_with and_not f (each_of (some_match has must_not) docs)
@@ -103,5 +103,5 @@ pub bool_set : (has : List ℕ → List ℕ → ℕ → Bool) (q : Tree) (must f
 bool_set has q must filter should must_not minimum docs least all m f n bits is w e1 e2 e3 e4 e5 =
     e5
     ∙ ap (λ l. zip_with ◌&&◌ n (each_of (λ d. nat_le l (count_match has should d)) docs)) w
-    ∙ combined (all_match has must) (all_match has filter) (some_match has must_not) (λ d. nat_le (wanted must filter should minimum) (count_match has should d)) docs all m f n e1 e2 e3 e4
+    ∙ combined (all_match has must) (all_match has filter) (some_match has must_not) (λ d. nat_le (needed must filter should minimum) (count_match has should d)) docs all m f n e1 e2 e3 e4
     ∙ ap (λ x. each_of (matches has x) docs) (sym is)

@@ -4,6 +4,7 @@ use Rattle.std.specs.Prelude.{Result, IsTrue, IfSome, MatchOption, ◌&&◌}
 use Rattle.std.specs.Option.{ForSome}
 use Rattle.std.specs.List.{range_with_len}
 use Rattle.std.proofs.lemmas.List.{take_all}
+use Rattle.directory_input.specs.Files.{FilesView}
 use Rattle.directory_input.specs.Windows.{Window, FitsFile, window_bytes}
 use Rattle.text_lines.specs.declared.errors.TextError.{TextError}
 use Rattle.text_lines.specs.declared.errors.TextError.TheVariants.{Bad, Bytes}
@@ -27,12 +28,12 @@ names n f (Bad at) x is below = rw is below
 names n f (Bytes b) x is below = rw is tt
 
 -- the window of a whole file
-pub whole_bytes : (count : ℕ) (length_of : ℕ → ℕ) (tells : Bool) (bytes : ℕ → List ℕ) (w : Window) (file : ℕ) → FitsFile count length_of tells bytes w → w ≡ record { file = file; start = 0; size = length_of file; position = 0 }
-    → IsTrue tells → window_bytes bytes w ≡ bytes file
-whole_bytes count length_of tells bytes w file fits is t =
+pub whole_bytes : (files : FilesView) (w : Window) (file : ℕ) → FitsFile files w → w ≡ record { file = file; start = 0; size = files.lengths file; position = 0 }
+    → IsTrue files.tells → window_bytes files.bytes w ≡ files.bytes file
+whole_bytes files w file fits is t =
     let named : w.file ≡ file = ap (λ (v : Window). v.file) is in
-    let told : length (bytes file) ≡ length_of file = ap (λ f. length (bytes f)) (sym named) ∙ fits.told t ∙ ap length_of named in
-    ap (window_bytes bytes) is ∙ take_all (length_of file) (bytes file) (omega arith)
+    let whole : length (files.bytes file) ≡ files.lengths file = ap (λ f. length (files.bytes f)) (sym named) ∙ fits.whole t ∙ ap files.lengths named in
+    ap (window_bytes files.bytes) is ∙ take_all (files.lengths file) (files.bytes file) (omega arith)
 
 pub opened : (f n : ℕ) (text whole : List ℕ) → text ≡ whole → ((rows : List Row) × (postings text n ≡ Ok rows)) → (rows : List Row) × (in_file f (postings whole n) ≡ Ok rows)
 opened f n text whole e o = (o.0, ap (λ t. in_file f (postings t n)) (sym e) ∙ ap (in_file f) o.1)

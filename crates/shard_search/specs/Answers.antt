@@ -22,8 +22,8 @@ search_refusal (Err (Bytes e)) = Some e
 
 -- what an answer says of what whole files give: a bad file and its place just so; a refusal of the bytes says nothing
 abbrev pub RefusesBy : {T : Type 0} → SearchError → Result T BadFile → Type 0
-RefusesBy (Bad f at) wanted = wanted ≡ Err (record { file = f; at = at })
-RefusesBy (Bytes e) wanted = Unit {0}
+RefusesBy (Bad f at) said = said ≡ Err (record { file = f; at = at })
+RefusesBy (Bytes e) said = Unit {0}
 
 abbrev pub hit : ℕ → ℕ → Hit
 hit n d = record { segment = n; doc = d }
@@ -33,8 +33,8 @@ pair_of h = (h.segment, h.doc)
 
 -- the number of hits, and the first `size` of them
 abbrev pub GivesHits : Result Hits SearchError → ℕ → Result (List (ℕ × ℕ)) BadFile → Type 0
-GivesHits (Ok h) size wanted = (hs : List (ℕ × ℕ)) × (wanted ≡ Ok hs) × (h.total ≡ length hs) × (map pair_of h.list ≡ take size hs)
-GivesHits (Err e) size wanted = RefusesBy e wanted
+GivesHits (Ok h) size said = (hs : List (ℕ × ℕ)) × (said ≡ Ok hs) × (h.total ≡ length hs) × (map pair_of h.list ≡ take size hs)
+GivesHits (Err e) size said = RefusesBy e said
 
 -- its segment is there, and its document is one of the segment's
 abbrev pub IsHitOf : List Segment → Hit → Type 0
@@ -42,13 +42,13 @@ IsHitOf segments h = (s : Segment) × (slice_get segments h.segment ≡ Some s) 
 
 -- the set of a segment's documents that match and are live
 abbrev pub GivesSet : Result (List Bool) SearchError → Result (List ℕ) BadFile → Type 0
-GivesSet (Ok bits) wanted = wanted ≡ Ok (places_of bits)
-GivesSet (Err e) wanted = RefusesBy e wanted
+GivesSet (Ok bits) said = said ≡ Ok (places_of bits)
+GivesSet (Err e) said = RefusesBy e said
 
 -- the fields of a document, or none
 abbrev pub GivesDocument : Result (Option (Vec StoredField Global)) SearchError → Result (Option (List StoredField)) BadFile → Type 0
-GivesDocument (Ok o) wanted = wanted ≡ Ok (option_map (λ v. v.items) o)
-GivesDocument (Err e) wanted = RefusesBy e wanted
+GivesDocument (Ok o) said = said ≡ Ok (option_map (λ v. v.items) o)
+GivesDocument (Err e) said = RefusesBy e said
 
 -- where the number is not below the segment's count, there is no such document, and nothing was read
 abbrev pub IsBeyond : {S T : Type 0} → Option Segment → ℕ → Result (Option T) SearchError → S → S → Type 0
@@ -86,11 +86,11 @@ put_hits front (Err b) = Err b
 
 -- a text was read whole, or its first line that is not allowed named
 abbrev pub Opens : {S T : Type 0} → Result S SearchError → Result T BadFile → Type 0
-Opens {T = T} (Ok x) wanted = (y : T) × (wanted ≡ Ok y)
-Opens (Err e) wanted = RefusesBy e wanted
+Opens {T = T} (Ok x) said = (y : T) × (said ≡ Ok y)
+Opens (Err e) said = RefusesBy e said
 
 -- the set of the live documents among so many, where there is a file of them
 abbrev pub GivesLive : Result (Option (List Bool)) SearchError → ℕ → Result (List ℕ) BadFile → Type 0
-GivesLive (Ok None) docs wanted = wanted ≡ Ok (range_with_len 0 docs)
-GivesLive (Ok (Some bits)) docs wanted = wanted ≡ Ok (places_of bits)
-GivesLive (Err e) docs wanted = RefusesBy e wanted
+GivesLive (Ok None) docs said = said ≡ Ok (range_with_len 0 docs)
+GivesLive (Ok (Some bits)) docs said = said ≡ Ok (places_of bits)
+GivesLive (Err e) docs said = RefusesBy e said

@@ -7,9 +7,9 @@ is_empty no_trees = true
 is_empty (tree q qs) = false
 
 -- how many queries of `should` have to match: the minimum where it is given; else 1 where only `should` asks for something
-abbrev pub wanted : Trees → Trees → Trees → Option ℕ → ℕ
-wanted must filter should (Some m) = m
-wanted must filter should None = if not (is_empty should) && is_empty must && is_empty filter then 1 else 0
+abbrev pub needed : Trees → Trees → Trees → Option ℕ → ℕ
+needed must filter should (Some m) = m
+needed must filter should None = if not (is_empty should) && is_empty must && is_empty filter then 1 else 0
 
 -- `has f v d` says whether document d has the term v in the field f
 abbrev mutual
@@ -18,7 +18,7 @@ abbrev mutual
   matches has match_all d = true
   matches has (term field value) d = has field value d
   matches has (compound must filter should must_not minimum) d =
-      all_match has must d && all_match has filter d && not (some_match has must_not d) && nat_le (wanted must filter should minimum) (count_match has should d)
+      all_match has must d && all_match has filter d && not (some_match has must_not d) && nat_le (needed must filter should minimum) (count_match has should d)
 
   pub all_match : (List ℕ → List ℕ → ℕ → Bool) → Trees → ℕ → Bool
   all_match has no_trees d = true

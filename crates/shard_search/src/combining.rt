@@ -1,12 +1,13 @@
 // The documents that a query matches, by sets of documents.
 ghost use Rattle.std.specs.Prelude.{◌≡◌, ◌+◌, ◌&&◌, ℕ, List, Bool, map, length, nat_le, IsTrue, IfOk, IfErr, OnOk, OnErr};
 ghost use Rattle.doc_bits.specs.Places.{zip_with, and_not};
+ghost use Rattle.directory_input.specs.Files.{GoesOn};
 ghost use Rattle.directory_input.specs.Causes.{HasBytesCause};
 ghost use Rattle.text_lines.specs.Errors.{text_refusal};
 ghost use Rattle.simpletext_postings.specs.Terms.{FitsText, IsOfBytes};
 ghost use Rattle.simpletext_postings.specs.declared.rows.Row.{Row};
 ghost use Rattle.query_lang.specs.Trees.{tree_of, trees_of};
-ghost use Rattle.shard_search.specs.Matches.{matches, all_match, some_match, count_match, wanted, is_empty};
+ghost use Rattle.shard_search.specs.Matches.{matches, all_match, some_match, count_match, needed, is_empty};
 ghost use Rattle.shard_search.specs.Hits.{has_in};
 ghost use Rattle.shard_search.specs.Sets.{each_of, AreRowsOf};
 
@@ -29,8 +30,9 @@ fn is_empty(clauses: &Clauses) -> bool
 }
 
 /// How many queries of `should` have to match.
-fn wanted(must: &Clauses, filter: &Clauses, should: &Clauses, minimum: Option<u64>) -> u64
-    ensures { result ≡ wanted (trees_of (map tree_of must.now)) (trees_of (map tree_of filter.now)) (trees_of (map tree_of should.now)) minimum }
+fn needed(must: &Clauses, filter: &Clauses, should: &Clauses, minimum: Option<u64>) -> u64
+    ensures { result ≡ needed (trees_of (map tree_of must.now)) (trees_of (map tree_of filter.now))
+        (trees_of (map tree_of should.now)) minimum }
 {
     let only_should = !is_empty(should) && is_empty(must) && is_empty(filter);
     match minimum {
@@ -39,8 +41,8 @@ fn wanted(must: &Clauses, filter: &Clauses, should: &Clauses, minimum: Option<u6
     }
 }
 
-/// The set of the documents that a query matches, of the `docs` documents of a dictionary. Each term's postings are read
-/// once per place in the query.
+/// The set of the documents that a query matches, of the `docs` documents of a dictionary. Each term's postings are
+/// read once per place in the query.
 #[cycle(matching)]
 pub(crate) fn matching<B: FileBytes>(
     alloc: Global,
@@ -50,13 +52,14 @@ pub(crate) fn matching<B: FileBytes>(
     query: &Query,
 ) -> Result<DocBits, TextError>
     requires docs { docs ≡ dictionary.now.docs }
-    requires fits { FitsText (B.count bytes.old) (B.length_of bytes.old) (B.tells bytes.old) (B.bytes bytes.old) dictionary.now }
-    ensures told { IsTrue (B.tells bytes.old) → (rows : List Row) → AreRowsOf (B.bytes bytes.old) dictionary.now rows
+    requires fits { FitsText (B.view bytes.old) dictionary.now }
+    ensures documents { IsTrue (B.view bytes.old).tells → (rows : List Row)
+        → AreRowsOf (B.view bytes.old).bytes dictionary.now rows
         → IfOk result (λ bits. bits ≡ each_of (matches (has_in rows) (tree_of query.now)) docs) }
-    ensures whole { IsTrue (B.tells bytes.old) → IfErr result IsOfBytes }
+    ensures never_bad { IsTrue (B.view bytes.old).tells → IfErr result IsOfBytes }
     ensures length { IfOk result (λ bits. length bits ≡ docs) }
-    ensures goes { B.goes_on bytes.old bytes.new }
-    ensures cause { HasBytesCause (B.faults bytes.old) (B.faults bytes.new) (B.mount bytes.old) (B.gone bytes.new) (B.wanted bytes.old) (B.wanted bytes.new) (text_refusal result) }
+    ensures goes { GoesOn B.goes_by bytes.old bytes.new }
+    ensures cause { HasBytesCause (B.view bytes.old) (B.view bytes.new) (text_refusal result) }
 {
     match query {
         Query::MatchAll => Ok(DocBits::ones(alloc, docs)?),
@@ -77,7 +80,7 @@ pub(crate) fn matching<B: FileBytes>(
             must_not,
             minimum,
         } => {
-            let least = wanted(must, filter, should, *minimum);
+            let least = needed(must, filter, should, *minimum);
             let all = DocBits::ones(alloc, docs)?;
             let kept = match keep_all(alloc, bytes, dictionary, docs, must.as_slice(), all) {
                 Ok(kept) => kept,
@@ -115,14 +118,17 @@ fn keep_all<B: FileBytes>(
     set: DocBits,
 ) -> Result<DocBits, TextError>
     requires docs { docs ≡ dictionary.now.docs }
-    requires fits { FitsText (B.count bytes.old) (B.length_of bytes.old) (B.tells bytes.old) (B.bytes bytes.old) dictionary.now }
+    requires fits { FitsText (B.view bytes.old) dictionary.now }
     requires length { length set ≡ docs }
-    ensures told { IsTrue (B.tells bytes.old) → (rows : List Row) → AreRowsOf (B.bytes bytes.old) dictionary.now rows
-        → IfOk result (λ bits. bits ≡ zip_with ◌&&◌ set (each_of (all_match (has_in rows) (trees_of (map tree_of queries.now))) docs)) }
-    ensures whole { IsTrue (B.tells bytes.old) → IfErr result IsOfBytes }
+    ensures documents { IsTrue (B.view bytes.old).tells → (rows : List Row)
+        → AreRowsOf (B.view bytes.old).bytes dictionary.now rows
+        → IfOk result (λ bits. bits
+        ≡ zip_with ◌&&◌ set (each_of (all_match (has_in rows) (trees_of (map tree_of queries.now))) docs)) }
+    ensures never_bad { IsTrue (B.view bytes.old).tells → IfErr result IsOfBytes }
     ensures length { IfOk result (λ bits. length bits ≡ docs) }
-    ensures goes { B.goes_on bytes.old bytes.new }
-    ensures cause { HasBytesCause (B.faults bytes.old) (B.faults bytes.new) (B.mount bytes.old) (B.gone bytes.new) (B.wanted bytes.old) (B.wanted bytes.new) (text_refusal result) }
+    ensures fits { FitsText (B.view bytes.new) dictionary.now }
+    ensures goes { GoesOn B.goes_by bytes.old bytes.new }
+    ensures cause { HasBytesCause (B.view bytes.old) (B.view bytes.new) (text_refusal result) }
 {
     let mut kept = set;
     for query in queries {
@@ -146,14 +152,17 @@ fn drop_any<B: FileBytes>(
     set: DocBits,
 ) -> Result<DocBits, TextError>
     requires docs { docs ≡ dictionary.now.docs }
-    requires fits { FitsText (B.count bytes.old) (B.length_of bytes.old) (B.tells bytes.old) (B.bytes bytes.old) dictionary.now }
+    requires fits { FitsText (B.view bytes.old) dictionary.now }
     requires length { length set ≡ docs }
-    ensures told { IsTrue (B.tells bytes.old) → (rows : List Row) → AreRowsOf (B.bytes bytes.old) dictionary.now rows
-        → IfOk result (λ bits. bits ≡ zip_with and_not set (each_of (some_match (has_in rows) (trees_of (map tree_of queries.now))) docs)) }
-    ensures whole { IsTrue (B.tells bytes.old) → IfErr result IsOfBytes }
+    ensures documents { IsTrue (B.view bytes.old).tells → (rows : List Row)
+        → AreRowsOf (B.view bytes.old).bytes dictionary.now rows
+        → IfOk result (λ bits. bits
+        ≡ zip_with and_not set (each_of (some_match (has_in rows) (trees_of (map tree_of queries.now))) docs)) }
+    ensures never_bad { IsTrue (B.view bytes.old).tells → IfErr result IsOfBytes }
     ensures length { IfOk result (λ bits. length bits ≡ docs) }
-    ensures goes { B.goes_on bytes.old bytes.new }
-    ensures cause { HasBytesCause (B.faults bytes.old) (B.faults bytes.new) (B.mount bytes.old) (B.gone bytes.new) (B.wanted bytes.old) (B.wanted bytes.new) (text_refusal result) }
+    ensures fits { FitsText (B.view bytes.new) dictionary.now }
+    ensures goes { GoesOn B.goes_by bytes.old bytes.new }
+    ensures cause { HasBytesCause (B.view bytes.old) (B.view bytes.new) (text_refusal result) }
 {
     let mut kept = set;
     for query in queries {
@@ -179,14 +188,17 @@ fn keep_least<B: FileBytes>(
     set: DocBits,
 ) -> Result<DocBits, TextError>
     requires docs { docs ≡ dictionary.now.docs }
-    requires fits { FitsText (B.count bytes.old) (B.length_of bytes.old) (B.tells bytes.old) (B.bytes bytes.old) dictionary.now }
+    requires fits { FitsText (B.view bytes.old) dictionary.now }
     requires length { length set ≡ docs }
-    ensures told { IsTrue (B.tells bytes.old) → (rows : List Row) → AreRowsOf (B.bytes bytes.old) dictionary.now rows
-        → IfOk result (λ bits. bits ≡ zip_with ◌&&◌ set (each_of (λ d. nat_le least (count_match (has_in rows) (trees_of (map tree_of queries.now)) d)) docs)) }
-    ensures whole { IsTrue (B.tells bytes.old) → IfErr result IsOfBytes }
+    ensures documents { IsTrue (B.view bytes.old).tells → (rows : List Row)
+        → AreRowsOf (B.view bytes.old).bytes dictionary.now rows
+        → IfOk result (λ bits. bits
+        ≡ zip_with ◌&&◌ set (each_of (λ d.
+        nat_le least (count_match (has_in rows) (trees_of (map tree_of queries.now)) d)) docs)) }
+    ensures never_bad { IsTrue (B.view bytes.old).tells → IfErr result IsOfBytes }
     ensures length { IfOk result (λ bits. length bits ≡ docs) }
-    ensures goes { B.goes_on bytes.old bytes.new }
-    ensures cause { HasBytesCause (B.faults bytes.old) (B.faults bytes.new) (B.mount bytes.old) (B.gone bytes.new) (B.wanted bytes.old) (B.wanted bytes.new) (text_refusal result) }
+    ensures goes { GoesOn B.goes_by bytes.old bytes.new }
+    ensures cause { HasBytesCause (B.view bytes.old) (B.view bytes.new) (text_refusal result) }
 {
     if least == 0 {
         return Ok(set);
@@ -212,13 +224,15 @@ fn count_each<B: FileBytes>(
     queries: &[Query],
 ) -> Result<Tally, TextError>
     requires docs { docs ≡ dictionary.now.docs }
-    requires fits { FitsText (B.count bytes.old) (B.length_of bytes.old) (B.tells bytes.old) (B.bytes bytes.old) dictionary.now }
-    ensures told { IsTrue (B.tells bytes.old) → (rows : List Row) → AreRowsOf (B.bytes bytes.old) dictionary.now rows
-        → IfOk result (λ tally. tally.counts ≡ each_of (count_match (has_in rows) (trees_of (map tree_of queries.now))) docs) }
-    ensures whole { IsTrue (B.tells bytes.old) → IfErr result IsOfBytes }
+    requires fits { FitsText (B.view bytes.old) dictionary.now }
+    ensures counts { IsTrue (B.view bytes.old).tells → (rows : List Row)
+        → AreRowsOf (B.view bytes.old).bytes dictionary.now rows
+        → IfOk result (λ tally. tally.counts
+        ≡ each_of (count_match (has_in rows) (trees_of (map tree_of queries.now))) docs) }
+    ensures never_bad { IsTrue (B.view bytes.old).tells → IfErr result IsOfBytes }
     ensures length { IfOk result (λ tally. length tally.counts ≡ docs) }
-    ensures goes { B.goes_on bytes.old bytes.new }
-    ensures cause { HasBytesCause (B.faults bytes.old) (B.faults bytes.new) (B.mount bytes.old) (B.gone bytes.new) (B.wanted bytes.old) (B.wanted bytes.new) (text_refusal result) }
+    ensures goes { GoesOn B.goes_by bytes.old bytes.new }
+    ensures cause { HasBytesCause (B.view bytes.old) (B.view bytes.new) (text_refusal result) }
 {
     if queries.len() > MOST_SETS {
         return Err(TextError::Bytes(BytesError::NoMemory));

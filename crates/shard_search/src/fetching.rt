@@ -1,6 +1,7 @@
 // Fetching the stored fields of a document.
 ghost use Rattle.std.specs.Prelude.{◌≡◌, ◌<◌, ◌≤◌, ℕ, List, Bool, length, IsTrue, IfOk, IfErr, slice_get, Some};
 ghost use Rattle.std.specs.Option.{ForSome};
+ghost use Rattle.directory_input.specs.Files.{GoesOn};
 ghost use Rattle.directory_input.specs.Causes.{HasBytesCause};
 ghost use Rattle.directory_input.specs.Windows.{window_bytes};
 ghost use Rattle.simpletext_stored.specs.Stored.{stored};
@@ -24,14 +25,16 @@ fn index_of<B: FileBytes>(
     file: u32,
     docs: u32,
 ) -> Result<StoredIndex, SearchError>
-    requires { file < B.count bytes.old }
-    ensures told { IsTrue (B.tells bytes.old) → Opens result (in_file file (stored (B.bytes bytes.old file) docs)) }
+    requires { file < (B.view bytes.old).count }
+    ensures documents { IsTrue (B.view bytes.old).tells
+        → Opens result (in_file file (stored ((B.view bytes.old).bytes file) docs)) }
     ensures docs { IfOk result (λ index. index.docs ≡ docs) }
-    ensures text { IsTrue (B.tells bytes.old) → IfOk result (λ index. window_bytes (B.bytes bytes.old) index.input ≡ B.bytes bytes.old file) }
-    ensures fits { IfOk result (FitsStored (B.count bytes.new) (B.length_of bytes.new) (B.tells bytes.new) (B.bytes bytes.new)) }
+    ensures text { IsTrue (B.view bytes.old).tells
+        → IfOk result (λ index. window_bytes (B.view bytes.old).bytes index.input ≡ (B.view bytes.old).bytes file) }
+    ensures fits { IfOk result (FitsStored (B.view bytes.new)) }
     ensures known { (n : ℕ) → file < n → IfErr result (NamesFile n) }
-    ensures goes { B.goes_on bytes.old bytes.new }
-    ensures cause { HasBytesCause (B.faults bytes.old) (B.faults bytes.new) (B.mount bytes.old) (B.gone bytes.new) (B.wanted bytes.old) (B.wanted bytes.new) (search_refusal result) }
+    ensures goes { GoesOn B.goes_by bytes.old bytes.new }
+    ensures cause { HasBytesCause (B.view bytes.old) (B.view bytes.new) (search_refusal result) }
 {
     let input = Input::open(bytes, file);
     match StoredIndex::open(alloc, bytes, input, docs) {
@@ -47,13 +50,15 @@ fn fields_in<B: FileBytes>(
     file: u32,
     doc: u32,
 ) -> Result<Vec<StoredField>, SearchError>
-    requires fits { FitsStored (B.count bytes.old) (B.length_of bytes.old) (B.tells bytes.old) (B.bytes bytes.old) index.now }
+    requires fits { FitsStored (B.view bytes.old) index.now }
     requires below { doc < index.now.docs }
-    ensures told { IsTrue (B.tells bytes.old) → IfOk result (λ fields. HasDocument (stored (window_bytes (B.bytes bytes.old) index.now.input) index.now.docs) doc fields.items) }
-    ensures whole { IsTrue (B.tells bytes.old) → IfErr result IsOfBytes }
+    ensures fields { IsTrue (B.view bytes.old).tells
+        → IfOk result (λ fields. HasDocument
+        (stored (window_bytes (B.view bytes.old).bytes index.now.input) index.now.docs) doc fields.items) }
+    ensures never_bad { IsTrue (B.view bytes.old).tells → IfErr result IsOfBytes }
     ensures known { (n : ℕ) → file < n → IfErr result (NamesFile n) }
-    ensures goes { B.goes_on bytes.old bytes.new }
-    ensures cause { HasBytesCause (B.faults bytes.old) (B.faults bytes.new) (B.mount bytes.old) (B.gone bytes.new) (B.wanted bytes.old) (B.wanted bytes.new) (search_refusal result) }
+    ensures goes { GoesOn B.goes_by bytes.old bytes.new }
+    ensures cause { HasBytesCause (B.view bytes.old) (B.view bytes.new) (search_refusal result) }
 {
     match index.fetch(bytes, doc) {
         Ok(fields) => Ok(fields),
@@ -81,13 +86,14 @@ fn document_of<B: FileBytes>(
     file: u32,
     doc: u32,
 ) -> Result<Option<Vec<StoredField>>, SearchError>
-    requires file { file < B.count bytes.old }
-    requires live { ForSome segment.now.live (λ f. f < B.count bytes.old) }
+    requires file { file < (B.view bytes.old).count }
+    requires live { ForSome segment.now.live (λ f. f < (B.view bytes.old).count) }
     requires below { doc < segment.now.docs }
-    ensures told { IsTrue (B.tells bytes.old) → GivesDocument result (document (B.bytes bytes.old) file segment.now doc) }
+    ensures fields { IsTrue (B.view bytes.old).tells
+        → GivesDocument result (document (B.view bytes.old).bytes file segment.now doc) }
     ensures known { (n : ℕ) → file < n → ForSome segment.now.live (λ f. f < n) → IfErr result (NamesFile n) }
-    ensures goes { B.goes_on bytes.old bytes.new }
-    ensures cause { HasBytesCause (B.faults bytes.old) (B.faults bytes.new) (B.mount bytes.old) (B.gone bytes.new) (B.wanted bytes.old) (B.wanted bytes.new) (search_refusal result) }
+    ensures goes { GoesOn B.goes_by bytes.old bytes.new }
+    ensures cause { HasBytesCause (B.view bytes.old) (B.view bytes.new) (search_refusal result) }
 {
     let index = match index_of(alloc, bytes, file, segment.docs) {
         Ok(index) => index,
@@ -118,13 +124,14 @@ pub fn fetch_doc<B: FileBytes>(
     segment: u32,
     doc: u32,
 ) -> Result<Option<Vec<StoredField>>, SearchError>
-    requires files { length shard.now.files ≤ B.count bytes.old }
+    requires files { length shard.now.files ≤ (B.view bytes.old).count }
     requires stored { HasStored shard.now.segments segment }
-    ensures told { IsTrue (B.tells bytes.old) → GivesDocument result (document_in (B.bytes bytes.old) (slice_get shard.now.segments segment) doc) }
+    ensures fields { IsTrue (B.view bytes.old).tells
+        → GivesDocument result (document_in (B.view bytes.old).bytes (slice_get shard.now.segments segment) doc) }
     ensures beyond { IsBeyond (slice_get shard.now.segments segment) doc result bytes.old bytes.new }
     ensures known { IfErr result (NamesFile (length shard.now.files)) }
-    ensures goes { B.goes_on bytes.old bytes.new }
-    ensures cause { HasBytesCause (B.faults bytes.old) (B.faults bytes.new) (B.mount bytes.old) (B.gone bytes.new) (B.wanted bytes.old) (B.wanted bytes.new) (search_refusal result) }
+    ensures goes { GoesOn B.goes_by bytes.old bytes.new }
+    ensures cause { HasBytesCause (B.view bytes.old) (B.view bytes.new) (search_refusal result) }
 {
     let segment = shard.segment(segment);
     if doc >= segment.docs {

@@ -2,6 +2,7 @@
 ghost use Rattle.std.specs.Prelude.{◌≡◌, ◌<◌, ◌&&◌, ℕ, List, Bool, Some, None, IsTrue, IfOk, IfErr, MatchOption, length};
 ghost use Rattle.std.specs.Option.{ForSome};
 ghost use Rattle.doc_bits.specs.Places.{zip_with};
+ghost use Rattle.directory_input.specs.Files.{GoesOn};
 ghost use Rattle.directory_input.specs.Causes.{HasBytesCause};
 ghost use Rattle.directory_input.specs.Windows.{window_bytes};
 ghost use Rattle.simpletext_postings.specs.Postings.{postings};
@@ -27,14 +28,18 @@ fn dictionary<B: FileBytes>(
     bytes: &mut B,
     segment: &Segment,
 ) -> Result<Dictionary, SearchError>
-    requires { segment.now.postings < B.count bytes.old }
-    ensures told { IsTrue (B.tells bytes.old) → Opens result (in_file segment.now.postings (postings (B.bytes bytes.old segment.now.postings) segment.now.docs)) }
+    requires { segment.now.postings < (B.view bytes.old).count }
+    ensures rows { IsTrue (B.view bytes.old).tells
+        → Opens result (in_file segment.now.postings
+        (postings ((B.view bytes.old).bytes segment.now.postings) segment.now.docs)) }
     ensures docs { IfOk result (λ d. d.docs ≡ segment.now.docs) }
-    ensures text { IsTrue (B.tells bytes.old) → IfOk result (λ d. window_bytes (B.bytes bytes.old) d.input ≡ B.bytes bytes.old segment.now.postings) }
-    ensures fits { IfOk result (FitsText (B.count bytes.new) (B.length_of bytes.new) (B.tells bytes.new) (B.bytes bytes.new)) }
+    ensures text { IsTrue (B.view bytes.old).tells
+        → IfOk result (λ d. window_bytes (B.view bytes.old).bytes d.input
+        ≡ (B.view bytes.old).bytes segment.now.postings) }
+    ensures fits { IfOk result (FitsText (B.view bytes.new)) }
     ensures known { (n : ℕ) → segment.now.postings < n → IfErr result (NamesFile n) }
-    ensures goes { B.goes_on bytes.old bytes.new }
-    ensures cause { HasBytesCause (B.faults bytes.old) (B.faults bytes.new) (B.mount bytes.old) (B.gone bytes.new) (B.wanted bytes.old) (B.wanted bytes.new) (search_refusal result) }
+    ensures goes { GoesOn B.goes_by bytes.old bytes.new }
+    ensures cause { HasBytesCause (B.view bytes.old) (B.view bytes.new) (search_refusal result) }
 {
     let input = Input::open(bytes, segment.postings);
     match Dictionary::open(alloc, bytes, input, segment.docs) {
@@ -49,12 +54,13 @@ pub(crate) fn live_set<B: FileBytes>(
     bytes: &mut B,
     segment: &Segment,
 ) -> Result<Option<DocBits>, SearchError>
-    requires { ForSome segment.now.live (λ f. f < B.count bytes.old) }
-    ensures told { IsTrue (B.tells bytes.old) → GivesLive result segment.now.docs (live_in (B.bytes bytes.old) segment.now.docs segment.now.live) }
+    requires { ForSome segment.now.live (λ f. f < (B.view bytes.old).count) }
+    ensures documents { IsTrue (B.view bytes.old).tells
+        → GivesLive result segment.now.docs (live_in (B.view bytes.old).bytes segment.now.docs segment.now.live) }
     ensures length { IfOk result (λ o. ForSome o (λ bits. length bits ≡ segment.now.docs)) }
     ensures known { (n : ℕ) → ForSome segment.now.live (λ f. f < n) → IfErr result (NamesFile n) }
-    ensures goes { B.goes_on bytes.old bytes.new }
-    ensures cause { HasBytesCause (B.faults bytes.old) (B.faults bytes.new) (B.mount bytes.old) (B.gone bytes.new) (B.wanted bytes.old) (B.wanted bytes.new) (search_refusal result) }
+    ensures goes { GoesOn B.goes_by bytes.old bytes.new }
+    ensures cause { HasBytesCause (B.view bytes.old) (B.view bytes.new) (search_refusal result) }
 {
     match segment.live {
         None => Ok(None),
@@ -86,13 +92,15 @@ pub(crate) fn found_in<B: FileBytes>(
     segment: &Segment,
     query: &Query,
 ) -> Result<DocBits, SearchError>
-    requires postings { segment.now.postings < B.count bytes.old }
-    requires live { ForSome segment.now.live (λ f. f < B.count bytes.old) }
-    ensures told { IsTrue (B.tells bytes.old) → GivesSet result (segment_docs (B.bytes bytes.old) (tree_of query.now) segment.now) }
+    requires postings { segment.now.postings < (B.view bytes.old).count }
+    requires live { ForSome segment.now.live (λ f. f < (B.view bytes.old).count) }
+    ensures documents { IsTrue (B.view bytes.old).tells
+        → GivesSet result (segment_docs (B.view bytes.old).bytes (tree_of query.now) segment.now) }
     ensures length { IfOk result (λ bits. length bits ≡ segment.now.docs) }
-    ensures known { (n : ℕ) → segment.now.postings < n → ForSome segment.now.live (λ f. f < n) → IfErr result (NamesFile n) }
-    ensures goes { B.goes_on bytes.old bytes.new }
-    ensures cause { HasBytesCause (B.faults bytes.old) (B.faults bytes.new) (B.mount bytes.old) (B.gone bytes.new) (B.wanted bytes.old) (B.wanted bytes.new) (search_refusal result) }
+    ensures known { (n : ℕ) → segment.now.postings < n → ForSome segment.now.live (λ f. f < n)
+        → IfErr result (NamesFile n) }
+    ensures goes { GoesOn B.goes_by bytes.old bytes.new }
+    ensures cause { HasBytesCause (B.view bytes.old) (B.view bytes.new) (search_refusal result) }
 {
     let dictionary = match dictionary(alloc, bytes, segment) {
         Ok(dictionary) => dictionary,

@@ -9,8 +9,6 @@ mod hits;
 mod searching;
 mod shelf;
 mod terms;
-#[cfg(test)]
-mod tests;
 
 pub use error::SearchError;
 pub use fetching::fetch_doc;

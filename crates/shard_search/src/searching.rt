@@ -1,6 +1,7 @@
 // Searching the segments of a shard.
 ghost use Rattle.std.specs.Prelude.{◌≡◌, ◌<◌, ◌≤◌, ◌-◌, ◌++◌, ℕ, List, Bool, map, take, min, length, IsTrue, IfOk, IfErr, OnOk, All};
 ghost use Rattle.doc_bits.specs.Places.{places_of};
+ghost use Rattle.directory_input.specs.Files.{GoesOn};
 ghost use Rattle.directory_input.specs.Causes.{HasBytesCause};
 ghost use Rattle.query_lang.specs.Trees.{tree_of};
 ghost use Rattle.shard_search.specs.Hits.{hits};
@@ -17,7 +18,8 @@ use std::alloc::{AllocError, Global};
 /// Puts the documents of a set behind the list, as far as that has fewer than `size` hits.
 fn show(list: &mut HitList, segment: u32, set: &DocBits, size: usize) -> Result<(), AllocError>
     requires { length list.old ≤ size }
-    ensures { OnOk result (list.new ≡ list.old ++ take (size - length list.old) (map (hit segment) (places_of set.now))) }
+    ensures { OnOk result (list.new
+        ≡ list.old ++ take (size - length list.old) (map (hit segment) (places_of set.now))) }
 {
     for doc in set.iter() {
         if list.len() >= size {
@@ -41,13 +43,14 @@ pub fn search<B: FileBytes>(
     query: &Query,
     size: u32,
 ) -> Result<Hits, SearchError>
-    requires { length shard.now.files ≤ B.count bytes.old }
-    ensures told { IsTrue (B.tells bytes.old) → GivesHits result size (hits (B.bytes bytes.old) (tree_of query.now) shard.now.segments) }
+    requires { length shard.now.files ≤ (B.view bytes.old).count }
+    ensures hits { IsTrue (B.view bytes.old).tells
+        → GivesHits result size (hits (B.view bytes.old).bytes (tree_of query.now) shard.now.segments) }
     ensures shown { IfOk result (λ h. length h.list ≡ min size h.total) }
     ensures within { IfOk result (λ h. All (IsHitOf shard.now.segments) h.list) }
     ensures known { IfErr result (NamesFile (length shard.now.files)) }
-    ensures goes { B.goes_on bytes.old bytes.new }
-    ensures cause { HasBytesCause (B.faults bytes.old) (B.faults bytes.new) (B.mount bytes.old) (B.gone bytes.new) (B.wanted bytes.old) (B.wanted bytes.new) (search_refusal result) }
+    ensures goes { GoesOn B.goes_by bytes.old bytes.new }
+    ensures cause { HasBytesCause (B.view bytes.old) (B.view bytes.new) (search_refusal result) }
 {
     let _shelf = shelf;
     let mut total = 0;

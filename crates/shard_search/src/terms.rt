@@ -1,5 +1,6 @@
 // The documents of a term.
 ghost use Rattle.std.specs.Prelude.{◌≡◌, ℕ, List, map, length, IsTrue, IfOk, IfErr};
+ghost use Rattle.directory_input.specs.Files.{GoesOn};
 ghost use Rattle.directory_input.specs.Causes.{HasBytesCause};
 ghost use Rattle.text_lines.specs.Errors.{text_refusal};
 ghost use Rattle.simpletext_postings.specs.Rows.{RiseWithin, has_row};
@@ -35,13 +36,14 @@ pub(crate) fn docs_with<B: FileBytes>(
     term: &[u8],
 ) -> Result<DocBits, TextError>
     requires docs { docs ≡ dictionary.now.docs }
-    requires fits { FitsText (B.count bytes.old) (B.length_of bytes.old) (B.tells bytes.old) (B.bytes bytes.old) dictionary.now }
-    ensures told { IsTrue (B.tells bytes.old) → (rows : List Row) → AreRowsOf (B.bytes bytes.old) dictionary.now rows
+    requires fits { FitsText (B.view bytes.old) dictionary.now }
+    ensures documents { IsTrue (B.view bytes.old).tells → (rows : List Row)
+        → AreRowsOf (B.view bytes.old).bytes dictionary.now rows
         → IfOk result (λ bits. bits ≡ each_of (has_row field.now term.now rows) docs) }
-    ensures whole { IsTrue (B.tells bytes.old) → IfErr result IsOfBytes }
+    ensures never_bad { IsTrue (B.view bytes.old).tells → IfErr result IsOfBytes }
     ensures length { IfOk result (λ bits. length bits ≡ docs) }
-    ensures goes { B.goes_on bytes.old bytes.new }
-    ensures cause { HasBytesCause (B.faults bytes.old) (B.faults bytes.new) (B.mount bytes.old) (B.gone bytes.new) (B.wanted bytes.old) (B.wanted bytes.new) (text_refusal result) }
+    ensures goes { GoesOn B.goes_by bytes.old bytes.new }
+    ensures cause { HasBytesCause (B.view bytes.old) (B.view bytes.new) (text_refusal result) }
 {
     let postings = match dictionary.postings(bytes, field, term) {
         Ok(postings) => postings,

@@ -2,6 +2,7 @@
 use Rattle.std.specs.Prelude.{ℕ, ◌≡◌, ◌+◌, ◌-◌, ◌&&◌, Bool, true, false, IsTrue, List, [], ◌∷◌, ◌++◌, map, filter, Option, Some, None, Result, Ok, Err, if◌then◌else◌}
 use Rattle.std.specs.Str.{bytes_eq}
 use Rattle.directory_input.specs.Reads.{Read}
+use Rattle.directory_input.specs.Files.{FilesView}
 use Rattle.directory_input.specs.Windows.{Window, FitsFile, window_bytes, part_of}
 use Rattle.text_lines.specs.Lines.{Taken, cut}
 use Rattle.text_lines.specs.Readers.{ReadsPieces}
@@ -92,18 +93,18 @@ pub record IsTableOf (t : TermTable) (text : List ℕ) : Type 0 where
   pub rows : (rows : List Row) × (postings text t.docs ≡ Ok rows)
   pub terms : t.terms ≡ terms_of text
 
--- a dictionary fits files (their count, lengths and, where told, bytes) whose text it was made of
-pub record FitsText (count : ℕ) (length_of : ℕ → ℕ) (tells : Bool) (bytes : ℕ → List ℕ) (t : TermTable) : Type 0 where
-  pub file : FitsFile count length_of tells bytes t.input
-  pub told : IsTrue tells → IsTableOf t (window_bytes bytes t.input)
+-- a dictionary fits files whose text, where it is told, it was made of
+pub record FitsText (files : FilesView) (t : TermTable) : Type 0 where
+  pub file : FitsFile files t.input
+  pub table : IsTrue files.tells → IsTableOf t (window_bytes files.bytes t.input)
 
 -- ---- answers
 
 -- an answer for a text that has these rows, or whose first bad line begins at that place
 abbrev pub Opens : {T : Type 0} → Result T TextError → Result (List Row) ℕ → Type 0
-Opens (Ok x) wanted = (rows : List Row) × (wanted ≡ Ok rows)
-Opens (Err (Bad at)) wanted = wanted ≡ Err at
-Opens (Err (Bytes e)) wanted = Unit {0}
+Opens (Ok x) said = (rows : List Row) × (said ≡ Ok rows)
+Opens (Err (Bad at)) said = said ≡ Err at
+Opens (Err (Bytes e)) said = Unit {0}
 
 -- a refusal of the bytes, and none of the text
 abbrev pub IsOfBytes : TextError → Type 0

@@ -1,5 +1,6 @@
 // A dictionary: the terms of a postings text, and where the text has their entries.
-ghost use Rattle.std.specs.Prelude.{◌≡◌, ◌≤◌, ◌-◌, ℕ, List, [], Bool, IsTrue, IfOk, IfErr, IfSome, IsOkAnd, map, option_map, Ok, None};
+ghost use Rattle.std.specs.Prelude.{◌≡◌, ◌≤◌, ◌-◌, List, [], IsTrue, IfOk, IfErr, IfSome, IsOkAnd, map, option_map, Ok, None};
+ghost use Rattle.directory_input.specs.Files.{FilesView};
 ghost use Rattle.directory_input.specs.Causes.{HasBytesCause};
 ghost use Rattle.directory_input.specs.Windows.{FitsFile, moved_to, part_of, window_bytes};
 ghost use Rattle.text_lines.specs.Errors.{text_refusal};
@@ -39,7 +40,8 @@ impl Model for Dictionary {
 
     ghost Value = { TermTable };
 
-    ghost view = { λ d. record { docs = d.docs; input = d.input; terms = map (named d.fields.items) d.places.items } };
+    ghost view = { λ d.
+        record { docs = d.docs; input = d.input; terms = map (named d.fields.items) d.places.items } };
 
     ghost invariant = { λ d. ArePlaces d.input.size d.fields.items d.places.items };
 }
@@ -55,14 +57,14 @@ impl Dictionary {
         input: Input,
         docs: u32,
     ) -> Result<Dictionary, TextError>
-        requires { FitsFile (B.count bytes.old) (B.length_of bytes.old) (B.tells bytes.old) (B.bytes bytes.old) input }
+        requires { FitsFile (B.view bytes.old) input }
         ensures docs { IfOk result (λ d. d.docs ≡ docs) }
         ensures input { IfOk result (λ d. d.input ≡ moved_to 0 input) }
-        ensures told { IsTrue (B.tells bytes.old) → Opens result (postings (window_bytes (B.bytes bytes.old) input) docs) }
-        ensures fits { IfOk result (FitsText (B.count bytes.new) (B.length_of bytes.new) (B.tells bytes.new) (B.bytes bytes.new)) }
+        ensures rows { IsTrue (B.view bytes.old).tells
+            → Opens result (postings (window_bytes (B.view bytes.old).bytes input) docs) }
+        ensures fits { IfOk result (FitsText (B.view bytes.new)) }
         ensures pieces { ReadsPieces B.goes_by input bytes.old bytes.new }
-        ensures goes { B.goes_on bytes.old bytes.new }
-        ensures cause { HasBytesCause (B.faults bytes.old) (B.faults bytes.new) (B.mount bytes.old) (B.gone bytes.new) (B.wanted bytes.old) (B.wanted bytes.new) (text_refusal result) }
+        ensures cause { HasBytesCause (B.view bytes.old) (B.view bytes.new) (text_refusal result) }
     {
         let mut reader = LineReader::new(alloc, whole(&input))?;
         let mut opening = Opening::new(alloc, docs);
@@ -86,15 +88,16 @@ impl Dictionary {
         field: &[u8],
         term: &[u8],
     ) -> Result<Vec<Posting>, TextError>
-        requires { FitsText (B.count bytes.old) (B.length_of bytes.old) (B.tells bytes.old) (B.bytes bytes.old) self.now }
-        ensures told { IsTrue (B.tells bytes.old) → (rows : List Row) → postings (window_bytes (B.bytes bytes.old) self.now.input) self.now.docs ≡ Ok rows → IfOk result (λ v. v.items ≡ postings_with field.now term.now rows) }
-        ensures whole { IsTrue (B.tells bytes.old) → IfErr result IsOfBytes }
+        requires { FitsText (B.view bytes.old) self.now }
+        ensures documents { IsTrue (B.view bytes.old).tells → (rows : List Row)
+            → postings (window_bytes (B.view bytes.old).bytes self.now.input) self.now.docs ≡ Ok rows
+            → IfOk result (λ v. v.items ≡ postings_with field.now term.now rows) }
+        ensures never_bad { IsTrue (B.view bytes.old).tells → IfErr result IsOfBytes }
         ensures rising { IfOk result (λ v. RiseWithin 0 self.now.docs (map posting_doc v.items)) }
         ensures unknown { entry_of field.now term.now self.now.terms ≡ None → IsOkAnd result (λ v. v.items ≡ []) }
-        ensures reads { ReadsEntries B.goes_by self.now.input (entry_of field.now term.now self.now.terms) bytes.old bytes.new }
-        ensures fits { FitsText (B.count bytes.new) (B.length_of bytes.new) (B.tells bytes.new) (B.bytes bytes.new) self.now }
-        ensures goes { B.goes_on bytes.old bytes.new }
-        ensures cause { HasBytesCause (B.faults bytes.old) (B.faults bytes.new) (B.mount bytes.old) (B.gone bytes.new) (B.wanted bytes.old) (B.wanted bytes.new) (text_refusal result) }
+        ensures reads { ReadsEntries B.goes_by self.now.input (entry_of field.now term.now self.now.terms)
+            bytes.old bytes.new }
+        ensures cause { HasBytesCause (B.view bytes.old) (B.view bytes.new) (text_refusal result) }
     {
         match self.find(field, term) {
             Some((from, to)) => {
@@ -129,7 +132,7 @@ fn part_between(input: &Input, from: u64, to: u64) -> Input
     requires order { from ≤ to }
     requires inside { to ≤ input.now.size }
     ensures part { result ≡ part_of input.now from (to - from) }
-    ensures fits { (count : ℕ) (length_of : ℕ → ℕ) (tells : Bool) (bytes : ℕ → List ℕ) → FitsFile count length_of tells bytes input.now → FitsFile count length_of tells bytes result }
+    ensures fits { (files : FilesView) → FitsFile files input.now → FitsFile files result }
 {
     match input.slice(from, to - from) {
         Ok(part) => part,

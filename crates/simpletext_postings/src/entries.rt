@@ -25,15 +25,16 @@ pub fn read_entries<B: FileBytes>(
     base: u64,
     docs: u32,
 ) -> Result<Vec<Posting>, TextError>
-    requires fits { FitsFile (B.count bytes.old) (B.length_of bytes.old) (B.tells bytes.old) (B.bytes bytes.old) input }
+    requires fits { FitsFile (B.view bytes.old) input }
     requires start { input.position ≡ 0 }
     requires room { base + input.size < 2 ^ 64 }
-    ensures told { IsTrue (B.tells bytes.old) → IfOk result (λ v. v.items ≡ listed (line_forms (cut (window_bytes (B.bytes bytes.old) input)).lines)) }
-    ensures whole { IsTrue (B.tells bytes.old) → IsEntryText docs 0 (cut (window_bytes (B.bytes bytes.old) input)) → IfErr result IsOfBytes }
+    ensures documents { IsTrue (B.view bytes.old).tells
+        → IfOk result (λ v. v.items ≡ listed (line_forms (cut (window_bytes (B.view bytes.old).bytes input)).lines)) }
+    ensures never_bad { IsTrue (B.view bytes.old).tells
+        → IsEntryText docs 0 (cut (window_bytes (B.view bytes.old).bytes input)) → IfErr result IsOfBytes }
     ensures rising { IfOk result (λ v. RiseWithin 0 docs (map posting_doc v.items)) }
     ensures pieces { ReadsPieces B.goes_by input bytes.old bytes.new }
-    ensures goes { B.goes_on bytes.old bytes.new }
-    ensures cause { HasBytesCause (B.faults bytes.old) (B.faults bytes.new) (B.mount bytes.old) (B.gone bytes.new) (B.wanted bytes.old) (B.wanted bytes.new) (text_refusal result) }
+    ensures cause { HasBytesCause (B.view bytes.old) (B.view bytes.new) (text_refusal result) }
 {
     let mut reader = LineReader::new(alloc, input)?;
     let mut collecting = Collecting::new(alloc, docs);
@@ -49,18 +50,20 @@ fn read_all<B: FileBytes>(
     base: u64,
     collecting: &mut Collecting,
 ) -> Result<(), TextError>
-    requires fits { FitsBytes (B.count bytes.old) (B.length_of bytes.old) (B.tells bytes.old) (B.bytes bytes.old) reader.old }
+    requires fits { FitsBytes (B.view bytes.old) reader.old }
     requires start { reader.old.input.position ≡ 0 }
     requires room { base + reader.old.input.size < 2 ^ 64 }
     requires rises { Rises collecting.old }
     requires least { collecting.old.least ≡ 0 }
-    ensures told { IsTrue (B.tells bytes.old) → OnOk result (collected collecting.new [] ≡ collected collecting.old (line_forms (cut (window_bytes (B.bytes bytes.old) reader.old.input)).lines)) }
-    ensures whole { IsTrue (B.tells bytes.old) → IsEntryText collecting.old.docs 0 (cut (window_bytes (B.bytes bytes.old) reader.old.input)) → IfErr result IsOfBytes }
+    ensures documents { IsTrue (B.view bytes.old).tells → OnOk result (collected collecting.new []
+        ≡ collected collecting.old (line_forms (cut (window_bytes (B.view bytes.old).bytes reader.old.input)).lines)) }
+    ensures never_bad { IsTrue (B.view bytes.old).tells
+        → IsEntryText collecting.old.docs 0 (cut (window_bytes (B.view bytes.old).bytes reader.old.input))
+        → IfErr result IsOfBytes }
     ensures rising { OnOk result (Rises collecting.new) }
     ensures docs { OnOk result (collecting.new.docs ≡ collecting.old.docs) }
     ensures pieces { ReadsPieces B.goes_by reader.old.input bytes.old bytes.new }
-    ensures goes { B.goes_on bytes.old bytes.new }
-    ensures cause { HasBytesCause (B.faults bytes.old) (B.faults bytes.new) (B.mount bytes.old) (B.gone bytes.new) (B.wanted bytes.old) (B.wanted bytes.new) (text_refusal result) }
+    ensures cause { HasBytesCause (B.view bytes.old) (B.view bytes.new) (text_refusal result) }
 {
     let mut line = Line {
         at: 0,

@@ -22,17 +22,19 @@ pub fn read_lines<B: FileBytes>(
     reader: &mut LineReader,
     opening: &mut Opening,
 ) -> Result<(), TextError>
-    requires fits { FitsBytes (B.count bytes.old) (B.length_of bytes.old) (B.tells bytes.old) (B.bytes bytes.old) reader.old }
+    requires fits { FitsBytes (B.view bytes.old) reader.old }
     requires start { reader.old.input.position ≡ 0 }
     requires of { IsOpeningOf [] opening.old }
     requires kept { IsKept [] 0 opening.old }
     requires none { opening.old.places.items ≡ [] }
-    ensures told { IsTrue (B.tells bytes.old) → Opens result (postings (window_bytes (B.bytes bytes.old) reader.old.input) opening.old.docs) }
-    ensures terms { IsTrue (B.tells bytes.old) → OnOk result (map (named opening.new.fields.items) opening.new.places.items ≡ terms_of (window_bytes (B.bytes bytes.old) reader.old.input)) }
+    ensures rows { IsTrue (B.view bytes.old).tells
+        → Opens result (postings (window_bytes (B.view bytes.old).bytes reader.old.input) opening.old.docs) }
+    ensures terms { IsTrue (B.view bytes.old).tells
+        → OnOk result (map (named opening.new.fields.items) opening.new.places.items
+        ≡ terms_of (window_bytes (B.view bytes.old).bytes reader.old.input)) }
     ensures kept { OnOk result (ArePlaces reader.old.input.size opening.new.fields.items opening.new.places.items) }
     ensures pieces { ReadsPieces B.goes_by reader.old.input bytes.old bytes.new }
-    ensures goes { B.goes_on bytes.old bytes.new }
-    ensures cause { HasBytesCause (B.faults bytes.old) (B.faults bytes.new) (B.mount bytes.old) (B.gone bytes.new) (B.wanted bytes.old) (B.wanted bytes.new) (text_refusal result) }
+    ensures cause { HasBytesCause (B.view bytes.old) (B.view bytes.new) (text_refusal result) }
 {
     let mut line = Line {
         at: 0,

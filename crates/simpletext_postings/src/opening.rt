@@ -81,7 +81,8 @@ impl Opening {
 
     fn begin_field(&mut self, at: u64, behind: u64, name: &[u8]) -> Result<bool, AllocError>
         ensures docs { OnOk result (self.new.docs ≡ self.old.docs) }
-        ensures takes { (past : List Form) → IsOpeningOf past self.old → IfOk result (Takes self.old.docs past (form.Field name.now) at behind self.old self.new) }
+        ensures takes { (past : List Form) → IsOpeningOf past self.old
+            → IfOk result (Takes self.old.docs past (form.Field name.now) at behind self.old self.new) }
     {
         let _ = behind;
         if !self.state.may_begin_field() || has_name(&self.fields, name) {
@@ -96,7 +97,8 @@ impl Opening {
 
     fn begin_term(&mut self, at: u64, behind: u64, name: &[u8]) -> Result<bool, AllocError>
         ensures docs { OnOk result (self.new.docs ≡ self.old.docs) }
-        ensures takes { (past : List Form) → IsOpeningOf past self.old → IfOk result (Takes self.old.docs past (form.Term name.now) at behind self.old self.new) }
+        ensures takes { (past : List Form) → IsOpeningOf past self.old
+            → IfOk result (Takes self.old.docs past (form.Term name.now) at behind self.old self.new) }
     {
         if !self.state.may_begin_term() || !is_term_above(&self.term, name) {
             return Ok(false);
@@ -114,7 +116,8 @@ impl Opening {
 
     fn take_end(&mut self, at: u64, behind: u64) -> Result<bool, AllocError>
         ensures docs { OnOk result (self.new.docs ≡ self.old.docs) }
-        ensures takes { (past : List Form) → IsOpeningOf past self.old → IfOk result (Takes self.old.docs past form.End at behind self.old self.new) }
+        ensures takes { (past : List Form) → IsOpeningOf past self.old
+            → IfOk result (Takes self.old.docs past form.End at behind self.old self.new) }
     {
         let _ = behind;
         if !self.state.take(self.docs, Shape::End) {
@@ -127,7 +130,8 @@ impl Opening {
     /// Takes the line of this content, which begins at `at` and ends before `behind`; false where it is not allowed.
     pub fn take(&mut self, at: u64, behind: u64, content: &[u8]) -> Result<bool, AllocError>
         ensures docs { OnOk result (self.new.docs ≡ self.old.docs) }
-        ensures takes { (past : List Form) → IsOpeningOf past self.old → IfOk result (Takes self.old.docs past (form_of content.now) at behind self.old self.new) }
+        ensures takes { (past : List Form) → IsOpeningOf past self.old
+            → IfOk result (Takes self.old.docs past (form_of content.now) at behind self.old self.new) }
     {
         match shape_of(content) {
             Shape::Field => self.begin_field(at, behind, behind_mark(content, 6)),

@@ -32,8 +32,8 @@ pub fn behind_mark(s: &[u8], n: usize) -> &[u8]
     &s[n..]
 }
 
-/// Whether a line begins with this mark. The mark's length is a part of its type, so that the compiler compares a word or
-/// two in place and calls nothing.
+/// Whether a line begins with this mark. The mark's length is a part of its type, so that the compiler compares a word
+/// or two in place and calls nothing.
 fn has_mark<const N: usize>(s: &[u8], mark: &[u8; N]) -> bool
     ensures bound { IsTrue result → N ≤ length s.now }
     ensures value { result ≡ begins mark.now s.now }

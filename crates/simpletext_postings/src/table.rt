@@ -100,14 +100,16 @@ impl TableState {
 
     /// Whether a term may follow that is above the last one.
     pub fn may_begin_term(&self) -> bool
-        ensures { (past : List Form) → IsTableState past self.now → result ≡ (at_field_or_term past || ends_entry past) }
+        ensures { (past : List Form) → IsTableState past self.now
+            → result ≡ (at_field_or_term past || ends_entry past) }
     {
         is_name(self.last) || self.ends_entry()
     }
 
     /// Behind the line of a field.
     pub fn begin_field(&mut self)
-        ensures { (past : List Form) (name : List ℕ) → IsTableState past self.old → IsTableState (form.Field name ∷ past) self.new }
+        ensures { (past : List Form) (name : List ℕ) → IsTableState past self.old
+            → IsTableState (form.Field name ∷ past) self.new }
     {
         self.last = LastLine::Field;
         self.doc = None;
@@ -115,7 +117,8 @@ impl TableState {
 
     /// Behind the line of a term.
     pub fn begin_term(&mut self)
-        ensures { (past : List Form) (name : List ℕ) → IsTableState past self.old → IsTableState (form.Term name ∷ past) self.new }
+        ensures { (past : List Form) (name : List ℕ) → IsTableState past self.old
+            → IsTableState (form.Term name ∷ past) self.new }
     {
         self.last = LastLine::Term;
         self.doc = None;
@@ -137,7 +140,8 @@ impl TableState {
     }
 
     fn take_frequency(&mut self, number: u32) -> bool
-        ensures { (docs : ℕ) (past : List Form) → IsTableState past self.old → Moves docs past (form.Freq number) self.new result }
+        ensures { (docs : ℕ) (past : List Form) → IsTableState past self.old
+            → Moves docs past (form.Freq number) self.new result }
     {
         if !matches!(self.last, LastLine::Doc) || number == 0 {
             return false;
@@ -148,7 +152,8 @@ impl TableState {
     }
 
     fn take_position(&mut self, number: u32) -> bool
-        ensures { (docs : ℕ) (past : List Form) → IsTableState past self.old → Moves docs past (form.Pos number) self.new result }
+        ensures { (docs : ℕ) (past : List Form) → IsTableState past self.old
+            → Moves docs past (form.Pos number) self.new result }
     {
         let may = matches!(self.last, LastLine::Freq) || is_whole(self.last);
         if !may || self.count >= self.frequency || !is_not_below(self.position, number) {
@@ -161,7 +166,8 @@ impl TableState {
     }
 
     fn take_start_offset(&mut self) -> bool
-        ensures { (docs : ℕ) (past : List Form) → IsTableState past self.old → Moves docs past form.StartOffset self.new result }
+        ensures { (docs : ℕ) (past : List Form) → IsTableState past self.old
+            → Moves docs past form.StartOffset self.new result }
     {
         if !matches!(self.last, LastLine::Pos) {
             return false;
@@ -171,7 +177,8 @@ impl TableState {
     }
 
     fn take_end_offset(&mut self) -> bool
-        ensures { (docs : ℕ) (past : List Form) → IsTableState past self.old → Moves docs past form.EndOffset self.new result }
+        ensures { (docs : ℕ) (past : List Form) → IsTableState past self.old
+            → Moves docs past form.EndOffset self.new result }
     {
         if !matches!(self.last, LastLine::StartOffset) {
             return false;
@@ -181,7 +188,8 @@ impl TableState {
     }
 
     fn take_payload(&mut self) -> bool
-        ensures { (docs : ℕ) (past : List Form) → IsTableState past self.old → Moves docs past form.Payload self.new result }
+        ensures { (docs : ℕ) (past : List Form) → IsTableState past self.old
+            → Moves docs past form.Payload self.new result }
     {
         if !matches!(self.last, LastLine::Pos | LastLine::EndOffset) {
             return false;
@@ -191,7 +199,8 @@ impl TableState {
     }
 
     fn take_end(&mut self) -> bool
-        ensures { (docs : ℕ) (past : List Form) → IsTableState past self.old → Moves docs past form.End self.new result }
+        ensures { (docs : ℕ) (past : List Form) → IsTableState past self.old
+            → Moves docs past form.End self.new result }
     {
         if !self.may_begin_field() {
             return false;
@@ -201,7 +210,8 @@ impl TableState {
     }
 
     fn take_checksum(&mut self) -> bool
-        ensures { (docs : ℕ) (past : List Form) → IsTableState past self.old → Moves docs past form.Checksum self.new result }
+        ensures { (docs : ℕ) (past : List Form) → IsTableState past self.old
+            → Moves docs past form.Checksum self.new result }
     {
         if !matches!(self.last, LastLine::End) {
             return false;
@@ -212,7 +222,8 @@ impl TableState {
 
     /// Takes a line that begins neither a field nor a term; false where it is not allowed.
     pub fn take(&mut self, docs: u32, shape: Shape) -> bool
-        ensures { (past : List Form) (s : List ℕ) → IsTableState past self.old → MovesBy docs past shape s self.new result }
+        ensures { (past : List Form) (s : List ℕ) → IsTableState past self.old
+            → MovesBy docs past shape s self.new result }
     {
         match shape {
             Shape::Pos(number) => self.take_position(number),

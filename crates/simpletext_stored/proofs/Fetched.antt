@@ -3,6 +3,7 @@ use Rattle.std.proofs.Common.{◌≡◌, ℕ, zero, suc, ◌+◌, ◌-◌, ◌<�
 use Rattle.std.specs.Prelude.{IsTrue, Result, slice_index}
 use Rattle.std.proofs.lemmas.Grind.{get_or_default_zero}
 use Rattle.directory_input.specs.Reads.{slice_of}
+use Rattle.directory_input.specs.Files.{FilesView}
 use Rattle.directory_input.specs.Windows.{Window, FitsFile, part_of, window_bytes}
 use Rattle.directory_input.proofs.Slices.{slice_of_window}
 use Rattle.simpletext_stored.specs.Answers.{StoredPlaces, HasDocument, lines_of_document}
@@ -29,12 +30,11 @@ between (p ∷ q ∷ places) end (suc d) h lt =
 pub place_is : (places : List ℕ) (d p : ℕ) → d < length places → p ≡ get_or places d p → p ≡ slice_index places d
 place_is places d p lt is = is ∙ get_or_default_zero places d p lt
 
-pub part_fits : (count : ℕ) (length_of : ℕ → ℕ) (tells : Bool) (bytes : ℕ → List ℕ) (w v : Window) (at len : ℕ) → v ≡ part_of w at len → at + len ≤ w.size
-    → FitsFile count length_of tells bytes w → FitsFile count length_of tells bytes v
-part_fits count length_of tells bytes w v at len is le h =
+pub part_fits : (files : FilesView) (w v : Window) (at len : ℕ) → v ≡ part_of w at len → at + len ≤ w.size → FitsFile files w → FitsFile files v
+part_fits files w v at len is le h =
     let inside = h.inside in
-    let within : w.start + at + len ≤ length_of w.file = omega (arith, le, inside) in
-    subst (FitsFile count length_of tells bytes) (sym is) (record { file = h.file; inside = within; told = h.told })
+    let within : w.start + at + len ≤ files.lengths w.file = omega (arith, le, inside) in
+    subst (FitsFile files) (sym is) (record { file = h.file; inside = within; whole = h.whole })
 
 module _ (bytes : ℕ → List ℕ) (index : StoredPlaces) (keeps : IsIndexed index.input index.docs index.places) (d : ℕ) (lt : d < index.docs)
     (told : stored_places (window_bytes bytes index.input) index.docs ≡ Ok index.places) (v : Window) (is : v ≡ lines_of_document index d) where

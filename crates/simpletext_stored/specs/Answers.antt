@@ -1,5 +1,6 @@
 -- What the calls of this crate answer.
 use Rattle.std.specs.Prelude.{ℕ, ◌≡◌, ◌<◌, ◌≤◌, ◌+◌, ◌-◌, Bool, true, false, IsTrue, List, [], ◌∷◌, length, slice_get, slice_index, Option, Some, None, Result, Ok, Err}
+use Rattle.directory_input.specs.Files.{FilesView}
 use Rattle.directory_input.specs.Windows.{Window, FitsFile, part_of, window_bytes}
 use Rattle.directory_input.specs.declared.files.BytesError.{BytesError}
 use Rattle.text_lines.specs.declared.errors.TextError.{TextError}
@@ -17,11 +18,10 @@ pub record StoredPlaces : Type 0 where
   pub docs : ℕ
   pub places : List ℕ
 
--- an index fits files (their count, lengths and, where told, bytes) where its input does and the places are those of
--- its text
-pub record FitsStored (count : ℕ) (length_of : ℕ → ℕ) (tells : Bool) (bytes : ℕ → List ℕ) (index : StoredPlaces) : Type 0 where
-  pub file : FitsFile count length_of tells bytes index.input
-  pub told : IsTrue tells → stored_places (window_bytes bytes index.input) index.docs ≡ Ok index.places
+-- an index fits files where its input does and, where their bytes are told, the places are those of its text
+pub record FitsStored (files : FilesView) (index : StoredPlaces) : Type 0 where
+  pub file : FitsFile files index.input
+  pub text : IsTrue files.tells → stored_places (window_bytes files.bytes index.input) index.docs ≡ Ok index.places
 
 -- the part of the input that has a document's lines, from its `doc` line on
 abbrev pub lines_of_document : StoredPlaces → ℕ → Window

@@ -62,7 +62,8 @@ impl Document {
 
     /// Ends a field with its value.
     fn end_field(&mut self, alloc: Global, value: &[u8]) -> Result<(), AllocError>
-        ensures ok { OnOk result (self.new.fields.items ≡ self.old.fields.items ++ record { name = self.old.name; kind = self.old.kind; value = value.now } ∷ []) }
+        ensures ok { OnOk result (self.new.fields.items
+            ≡ self.old.fields.items ++ record { name = self.old.name; kind = self.old.kind; value = value.now } ∷ []) }
         ensures name { OnOk result (self.new.name ≡ self.old.name) }
         ensures kind { OnOk result (self.new.kind ≡ self.old.kind) }
     {
@@ -77,7 +78,8 @@ impl Document {
 
     /// Takes a line with this content; false where it may not stand here in document `doc`.
     pub fn take(&mut self, alloc: Global, doc: u32, content: &[u8]) -> Result<bool, AllocError>
-        ensures { (past : List Form) → self.old.last ≡ last past → IfOk result (StepsOn doc past content.now self.old self.new) }
+        ensures { (past : List Form) → self.old.last ≡ last past
+            → IfOk result (StepsOn doc past content.now self.old self.new) }
     {
         let form = form_of(content);
         if !may_stand(self.last, doc, form) {
@@ -101,13 +103,14 @@ pub fn read_document<B: FileBytes>(
     input: Input,
     doc: u32,
 ) -> Result<Vec<StoredField>, TextError>
-    requires fits { FitsFile (B.count bytes.old) (B.length_of bytes.old) (B.tells bytes.old) (B.bytes bytes.old) input }
+    requires fits { FitsFile (B.view bytes.old) input }
     requires start { input.position ≡ 0 }
-    ensures told { IsTrue (B.tells bytes.old) → IfOk result (λ fields. document_of doc (window_bytes (B.bytes bytes.old) input) ≡ Ok fields.items) }
-    ensures refused { IsTrue (B.tells bytes.old) → IfErr result (Breaks (document_of doc (window_bytes (B.bytes bytes.old) input))) }
+    ensures fields { IsTrue (B.view bytes.old).tells
+        → IfOk result (λ fields. document_of doc (window_bytes (B.view bytes.old).bytes input) ≡ Ok fields.items) }
+    ensures refused { IsTrue (B.view bytes.old).tells
+        → IfErr result (Breaks (document_of doc (window_bytes (B.view bytes.old).bytes input))) }
     ensures pieces { ReadsPieces B.goes_by input bytes.old bytes.new }
-    ensures goes { B.goes_on bytes.old bytes.new }
-    ensures cause { HasBytesCause (B.faults bytes.old) (B.faults bytes.new) (B.mount bytes.old) (B.gone bytes.new) (B.wanted bytes.old) (B.wanted bytes.new) (text_refusal result) }
+    ensures cause { HasBytesCause (B.view bytes.old) (B.view bytes.new) (text_refusal result) }
 {
     let mut reader = LineReader::new(alloc, input)?;
     let mut line = Line {

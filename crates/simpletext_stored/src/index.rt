@@ -44,14 +44,15 @@ fn read_places<B: FileBytes>(
     input: Input,
     docs: u32,
 ) -> Result<Vec<u64>, TextError>
-    requires fits { FitsFile (B.count bytes.old) (B.length_of bytes.old) (B.tells bytes.old) (B.bytes bytes.old) input }
+    requires fits { FitsFile (B.view bytes.old) input }
     requires start { input.position ≡ 0 }
-    ensures told { IsTrue (B.tells bytes.old) → IfOk result (λ places. stored_places (window_bytes (B.bytes bytes.old) input) docs ≡ Ok places.items) }
-    ensures refused { IsTrue (B.tells bytes.old) → IfErr result (Breaks (stored_lines (window_bytes (B.bytes bytes.old) input) docs)) }
+    ensures places { IsTrue (B.view bytes.old).tells
+        → IfOk result (λ places. stored_places (window_bytes (B.view bytes.old).bytes input) docs ≡ Ok places.items) }
+    ensures refused { IsTrue (B.view bytes.old).tells
+        → IfErr result (Breaks (stored_lines (window_bytes (B.view bytes.old).bytes input) docs)) }
     ensures indexed { IfOk result (λ places. IsIndexed input docs places.items) }
     ensures pieces { ReadsPieces B.goes_by input bytes.old bytes.new }
-    ensures goes { B.goes_on bytes.old bytes.new }
-    ensures cause { HasBytesCause (B.faults bytes.old) (B.faults bytes.new) (B.mount bytes.old) (B.gone bytes.new) (B.wanted bytes.old) (B.wanted bytes.new) (text_refusal result) }
+    ensures cause { HasBytesCause (B.view bytes.old) (B.view bytes.new) (text_refusal result) }
 {
     let mut reader = LineReader::new(alloc, input)?;
     let mut line = Line {
@@ -109,14 +110,14 @@ impl StoredIndex {
         input: Input,
         docs: u32,
     ) -> Result<StoredIndex, TextError>
-        requires { FitsFile (B.count bytes.old) (B.length_of bytes.old) (B.tells bytes.old) (B.bytes bytes.old) input }
-        ensures told { IsTrue (B.tells bytes.old) → Opens result (stored (window_bytes (B.bytes bytes.old) input) docs) }
+        requires { FitsFile (B.view bytes.old) input }
+        ensures documents { IsTrue (B.view bytes.old).tells
+            → Opens result (stored (window_bytes (B.view bytes.old).bytes input) docs) }
         ensures docs { IfOk result (λ index. index.docs ≡ docs) }
         ensures input { IfOk result (λ index. index.input ≡ input) }
-        ensures fits { IfOk result (FitsStored (B.count bytes.new) (B.length_of bytes.new) (B.tells bytes.new) (B.bytes bytes.new)) }
+        ensures fits { IfOk result (FitsStored (B.view bytes.new)) }
         ensures pieces { ReadsPieces B.goes_by input bytes.old bytes.new }
-        ensures goes { B.goes_on bytes.old bytes.new }
-        ensures cause { HasBytesCause (B.faults bytes.old) (B.faults bytes.new) (B.mount bytes.old) (B.gone bytes.new) (B.wanted bytes.old) (B.wanted bytes.new) (text_refusal result) }
+        ensures cause { HasBytesCause (B.view bytes.old) (B.view bytes.new) (text_refusal result) }
     {
         let places = read_places(alloc, bytes, whole(&input), docs)?;
         Ok(StoredIndex {
@@ -135,14 +136,13 @@ impl StoredIndex {
         bytes: &mut B,
         doc: u32,
     ) -> Result<Vec<StoredField>, StoredError>
-        requires { FitsStored (B.count bytes.old) (B.length_of bytes.old) (B.tells bytes.old) (B.bytes bytes.old) self.now }
-        ensures told { IsTrue (B.tells bytes.old) → IfOk result (λ fields. HasDocument (stored (window_bytes (B.bytes bytes.old) self.now.input) self.now.docs) doc fields.items) }
-        ensures never_bad { IsTrue (B.tells bytes.old) → IfErr result IsNotBad }
+        requires { FitsStored (B.view bytes.old) self.now }
+        ensures fields { IsTrue (B.view bytes.old).tells → IfOk result (λ fields. HasDocument
+            (stored (window_bytes (B.view bytes.old).bytes self.now.input) self.now.docs) doc fields.items) }
+        ensures never_bad { IsTrue (B.view bytes.old).tells → IfErr result IsNotBad }
         ensures no_doc { KnowsDocs result self.now.docs doc }
-        ensures fits { FitsStored (B.count bytes.new) (B.length_of bytes.new) (B.tells bytes.new) (B.bytes bytes.new) self.now }
         ensures pieces { ReadsPieces B.goes_by (lines_of_document self.now doc) bytes.old bytes.new }
-        ensures goes { B.goes_on bytes.old bytes.new }
-        ensures cause { HasBytesCause (B.faults bytes.old) (B.faults bytes.new) (B.mount bytes.old) (B.gone bytes.new) (B.wanted bytes.old) (B.wanted bytes.new) (stored_refusal result) }
+        ensures cause { HasBytesCause (B.view bytes.old) (B.view bytes.new) (stored_refusal result) }
     {
         if doc >= self.docs {
             return Err(StoredError::NoDoc { doc });

@@ -34,13 +34,13 @@ fn read_live<B: FileBytes>(
     input: Input,
     docs: u32,
 ) -> Result<DocBits, TextError>
-    requires fits { FitsFile (B.count bytes.old) (B.length_of bytes.old) (B.tells bytes.old) (B.bytes bytes.old) input }
+    requires fits { FitsFile (B.view bytes.old) input }
     requires start { input.position ≡ 0 }
-    ensures told { IsTrue (B.tells bytes.old) → GivesLive result (live (window_bytes (B.bytes bytes.old) input) docs) }
+    ensures documents { IsTrue (B.view bytes.old).tells
+        → GivesLive result (live (window_bytes (B.view bytes.old).bytes input) docs) }
     ensures length { IfOk result (λ bits. length bits ≡ docs) }
     ensures pieces { ReadsPieces B.goes_by input bytes.old bytes.new }
-    ensures goes { B.goes_on bytes.old bytes.new }
-    ensures cause { HasBytesCause (B.faults bytes.old) (B.faults bytes.new) (B.mount bytes.old) (B.gone bytes.new) (B.wanted bytes.old) (B.wanted bytes.new) (text_refusal result) }
+    ensures cause { HasBytesCause (B.view bytes.old) (B.view bytes.new) (text_refusal result) }
 {
     let mut bits = DocBits::zeros(alloc, docs)?;
     let mut reader = LineReader::new(alloc, input)?;
@@ -77,12 +77,12 @@ pub fn live<B: FileBytes>(
     input: Input,
     docs: u32,
 ) -> Result<DocBits, TextError>
-    requires { FitsFile (B.count bytes.old) (B.length_of bytes.old) (B.tells bytes.old) (B.bytes bytes.old) input }
-    ensures told { IsTrue (B.tells bytes.old) → GivesLive result (live (window_bytes (B.bytes bytes.old) input) docs) }
+    requires { FitsFile (B.view bytes.old) input }
+    ensures documents { IsTrue (B.view bytes.old).tells
+        → GivesLive result (live (window_bytes (B.view bytes.old).bytes input) docs) }
     ensures length { IfOk result (λ bits. length bits ≡ docs) }
     ensures pieces { ReadsPieces B.goes_by input bytes.old bytes.new }
-    ensures goes { B.goes_on bytes.old bytes.new }
-    ensures cause { HasBytesCause (B.faults bytes.old) (B.faults bytes.new) (B.mount bytes.old) (B.gone bytes.new) (B.wanted bytes.old) (B.wanted bytes.new) (text_refusal result) }
+    ensures cause { HasBytesCause (B.view bytes.old) (B.view bytes.new) (text_refusal result) }
 {
     let bits = read_live(alloc, bytes, whole(&input), docs)?;
     Ok(bits)

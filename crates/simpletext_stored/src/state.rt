@@ -59,7 +59,8 @@ fn is_checksum_line(last: Option<Form>) -> bool
 
 /// Whether a line may stand after the last one, where so many documents have begun.
 fn may_stand(before: Option<Form>, count: usize, docs: u32, form: Form) -> bool
-    ensures { (past : List Form) → before ≡ last past → (is_over before ≡ false → count ≡ doc_count past) → result ≡ is_allowed docs past form }
+    ensures { (past : List Form) → before ≡ last past → (is_over before ≡ false → count ≡ doc_count past)
+        → result ≡ is_allowed docs past form }
 {
     match form {
         Form::Doc(number) => {
@@ -88,7 +89,8 @@ impl State {
 
     /// Takes a line that begins at the place `at`; false where it may not stand here.
     pub fn take(&mut self, docs: u32, at: u64, form: Form) -> Result<bool, AllocError>
-        ensures { (past : List Form) → IsStateOf docs past self.old → IfOk result (Step docs past at form self.old self.new) }
+        ensures { (past : List Form) → IsStateOf docs past self.old
+            → IfOk result (Step docs past at form self.old self.new) }
     {
         if !may_stand(self.last, self.places.len(), docs, form) {
             return Ok(false);

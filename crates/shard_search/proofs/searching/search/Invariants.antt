@@ -1,5 +1,6 @@
 use Rattle.std.proofs.Common.{◌≡◌, ◌≤◌, ◌*◌, ◌+◌, min, List, ℕ, drop, length, map, take, None}
 use Rattle.std.specs.Prelude.{IsTrue, All}
+use Rattle.directory_input.specs.Files.{GoesOn}
 use Rattle.directory_input.specs.Causes.{HasBytesCause}
 use Rattle.query_lang.specs.Trees.{tree_of}
 use Rattle.shard_search.specs.Hits.{hits_from, hits}
@@ -8,11 +9,11 @@ use Rattle.shard_search.proofs.searching.search.Given as goal
 
 abbrev pub invariant-loop-number : goal.invariant-loop-number
 invariant-loop-number g l = record {
-  goes : g.B.FileBytes.goes_on l.fn.bytes l.bytes;
-  cause : HasBytesCause (g.B.FileBytes.faults l.fn.bytes) (g.B.FileBytes.faults l.bytes) (g.B.FileBytes.mount l.fn.bytes) (g.B.FileBytes.gone l.bytes) (g.B.FileBytes.wanted l.fn.bytes) (g.B.FileBytes.wanted l.bytes) None;
+  goes : GoesOn g.B.FileBytes.goes_by l.fn.bytes l.bytes;
+  cause : HasBytesCause (g.B.FileBytes.view l.fn.bytes) (g.B.FileBytes.view l.bytes) None;
   small : l.total ≤ l.number * 4294967295;
   shown : length l.list ≡ min l.size l.total;
   within : All (IsHitOf l.shard.segments) l.list;
-  told : IsTrue (g.B.FileBytes.tells l.fn.bytes) → (hs : List (ℕ × ℕ)) × (l.total ≡ length hs) × (map pair_of l.list ≡ take l.size hs)
-      × (put_hits hs (hits_from (g.B.FileBytes.bytes l.fn.bytes) (tree_of l.query) l.number (drop l.number l.shard.segments)) ≡ hits (g.B.FileBytes.bytes l.fn.bytes) (tree_of l.query) l.shard.segments);
+  hits : IsTrue (g.B.FileBytes.view l.fn.bytes).tells → (hs : List (ℕ × ℕ)) × (l.total ≡ length hs) × (map pair_of l.list ≡ take l.size hs)
+      × (put_hits hs (hits_from (g.B.FileBytes.view l.fn.bytes).bytes (tree_of l.query) l.number (drop l.number l.shard.segments)) ≡ hits (g.B.FileBytes.view l.fn.bytes).bytes (tree_of l.query) l.shard.segments);
 }

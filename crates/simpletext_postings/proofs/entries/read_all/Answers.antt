@@ -3,7 +3,8 @@ use Rattle.std.proofs.lemmas.Result.{err_from_is_err_and}
 use Rattle.directory_input.specs.Windows.{window_bytes, moved_to}
 use Rattle.text_lines.specs.Lines.{cut}
 use Rattle.text_lines.specs.Readers.{rest}
-use Rattle.text_lines.proofs.Ahead.{pieces_on, cause_on}
+use Rattle.text_lines.proofs.Ahead.{pieces_on, no_pieces}
+use Rattle.directory_input.proofs.Later.{cause_join, no_cause}
 use Rattle.simpletext_postings.specs.Postings.{form_of}
 use Rattle.simpletext_postings.specs.Entries.{IsEntryText, collected, line_forms}
 use Rattle.simpletext_postings.proofs.SoFar.{same_refusal}
@@ -13,17 +14,15 @@ use Rattle.simpletext_postings.proofs.entries.read_all.Goals as goal
 pub loop-line-init : goal.loop-line-init
 loop-line-init g c =
     let B = g.B.FileBytes in
-    let laws = g.met.B.FileBytes in
-    let text = window_bytes (B.bytes c.args.bytes.now) c.args.reader.now.input in
+    let text = window_bytes (B.view c.args.bytes.now).bytes c.args.reader.now.input in
     record {
-      goes = laws.stays _;
-      pieces = ([], tt, laws.by_none _);
-      memory = λ z. z;
+      pieces = no_pieces _ _ _ (g.met.B.FileBytes.by_none _);
+      cause = no_cause _;
       fits = c.requires.fits;
       input = refl;
       docs = refl;
       rises = c.requires.rises;
-      told = λ t. (
+      documents = λ t. (
         ap (λ n. collected c.args.collecting.now (line_forms (cut (drop n text)).lines)) c.requires.start,
         λ h. subst (λ n. IsEntryText c.args.collecting.now.docs c.args.collecting.now.least (cut (drop n text))) (sym c.requires.start)
             (subst (λ n. IsEntryText c.args.collecting.now.docs n (cut text)) (sym c.requires.least) h),
@@ -31,83 +30,65 @@ loop-line-init g c =
     }
 
 pub returns-in_err-next_in-clause-pieces : goal.returns-in_err-next_in-clause-pieces
-returns-in_err-next_in-clause-pieces g c = pieces_on g.B.FileBytes.goes_by g.met.B.FileBytes.by_more c.args.reader.now.input c.loop-line.reader.input c.loop-line.reader.input.position c.args.bytes.now c.loop-line.bytes c.next_in.new.bytes c.loop-line.invariant.input c.loop-line.invariant.pieces c.in_err-next_in.ensures.pieces
-
-pub returns-in_err-next_in-clause-goes : goal.returns-in_err-next_in-clause-goes
-returns-in_err-next_in-clause-goes g c = g.met.B.FileBytes.joins _ _ _ c.loop-line.invariant.goes c.in_err-next_in.ensures.goes
+returns-in_err-next_in-clause-pieces g c = pieces_on _ g.met.B.FileBytes.by_more c.loop-line.invariant.input c.loop-line.invariant.pieces c.in_err-next_in.ensures.pieces
 
 pub returns-in_err-take-clause-pieces : goal.returns-in_err-take-clause-pieces
-returns-in_err-take-clause-pieces g c = pieces_on g.B.FileBytes.goes_by g.met.B.FileBytes.by_more c.args.reader.now.input c.loop-line.reader.input c.loop-line.reader.input.position c.args.bytes.now c.loop-line.bytes c.next_in.new.bytes c.loop-line.invariant.input c.loop-line.invariant.pieces c.in_ok-next_in.ensures.pieces
-
-pub returns-in_err-take-clause-goes : goal.returns-in_err-take-clause-goes
-returns-in_err-take-clause-goes g c = g.met.B.FileBytes.joins _ _ _ c.loop-line.invariant.goes c.in_ok-next_in.ensures.goes
+returns-in_err-take-clause-pieces g c = pieces_on _ g.met.B.FileBytes.by_more c.loop-line.invariant.input c.loop-line.invariant.pieces c.in_ok-next_in.ensures.pieces
 
 pub returns-then-not-branch-clause-pieces : goal.returns-then-not-branch-clause-pieces
-returns-then-not-branch-clause-pieces g c = pieces_on g.B.FileBytes.goes_by g.met.B.FileBytes.by_more c.args.reader.now.input c.loop-line.reader.input c.loop-line.reader.input.position c.args.bytes.now c.loop-line.bytes c.next_in.new.bytes c.loop-line.invariant.input c.loop-line.invariant.pieces c.in_ok-next_in.ensures.pieces
-
-pub returns-then-not-branch-clause-goes : goal.returns-then-not-branch-clause-goes
-returns-then-not-branch-clause-goes g c = g.met.B.FileBytes.joins _ _ _ c.loop-line.invariant.goes c.in_ok-next_in.ensures.goes
+returns-then-not-branch-clause-pieces g c = pieces_on _ g.met.B.FileBytes.by_more c.loop-line.invariant.input c.loop-line.invariant.pieces c.in_ok-next_in.ensures.pieces
 
 pub returns-clause-pieces : goal.returns-clause-pieces
-returns-clause-pieces g c = pieces_on g.B.FileBytes.goes_by g.met.B.FileBytes.by_more c.args.reader.now.input c.loop-line.reader.input c.loop-line.reader.input.position c.args.bytes.now c.loop-line.bytes c.next_in.new.bytes c.loop-line.invariant.input c.loop-line.invariant.pieces c.in_ok-next_in.ensures.pieces
+returns-clause-pieces g c = pieces_on _ g.met.B.FileBytes.by_more c.loop-line.invariant.input c.loop-line.invariant.pieces c.in_ok-next_in.ensures.pieces
 
-pub returns-clause-goes : goal.returns-clause-goes
-returns-clause-goes g c = g.met.B.FileBytes.joins _ _ _ c.loop-line.invariant.goes c.in_ok-next_in.ensures.goes
-
-pub returns-in_err-next_in-clause-whole : goal.returns-in_err-next_in-clause-whole
-returns-in_err-next_in-clause-whole g c = λ t h.
+pub returns-in_err-next_in-clause-never_bad : goal.returns-in_err-next_in-clause-never_bad
+returns-in_err-next_in-clause-never_bad g c = λ t h.
     let B = g.B.FileBytes in
-    let laws = g.met.B.FileBytes in
     let i = c.loop-line.invariant in
-    let told = rw (laws.same_bytes _ _ i.goes) at (c.in_err-next_in.ensures.told (laws.same_tells _ _ i.goes ∙ t)) in
+    let told = rw (i.cause.files.bytes) at (c.in_err-next_in.ensures.line (i.cause.files.tells ∙ t)) in
     let p = err_from_is_err_and c.from_residual.result c.from_residual.ensures.1 in
-    rw (p.1, p.2) (of_bytes c.loop-line.collecting.docs c.loop-line.collecting.least (rest (B.bytes c.args.bytes.now) c.loop-line.reader.input) ((i.told t).1 h) c.in_err-next_in.field-0.0 told)
+    rw (p.1, p.2) (of_bytes c.loop-line.collecting.docs c.loop-line.collecting.least (rest (B.view c.args.bytes.now).bytes c.loop-line.reader.input) ((i.documents t).1 h) c.in_err-next_in.field-0.0 told)
 
 pub returns-in_err-next_in-clause-cause : goal.returns-in_err-next_in-clause-cause
 returns-in_err-next_in-clause-cause g c =
-    let laws = g.met.B.FileBytes in
     let i = c.loop-line.invariant in
     let p = err_from_is_err_and c.from_residual.result c.from_residual.ensures.1 in
     let e = same_refusal c.in_err-next_in.field-0.0 in
-    rw (p.1, p.2, sym e) (cause_on _ _ _ _ _ _ _ _ _ _ (laws.later _ _ i.goes) (laws.same_mount _ _ i.goes) i.memory c.in_err-next_in.ensures.cause)
+    rw (p.1, p.2, sym e) (cause_join i.cause c.in_err-next_in.ensures.cause)
 
-pub returns-then-not-branch-clause-whole : goal.returns-then-not-branch-clause-whole
-returns-then-not-branch-clause-whole g c = λ t h.
+pub returns-then-not-branch-clause-never_bad : goal.returns-then-not-branch-clause-never_bad
+returns-then-not-branch-clause-never_bad g c = λ t h.
     let B = g.B.FileBytes in
-    let laws = g.met.B.FileBytes in
     let i = c.loop-line.invariant in
-    let told = rw (c.if-branch.true, laws.same_bytes _ _ i.goes) at (c.in_ok-next_in.ensures.told (laws.same_tells _ _ i.goes ∙ t)) in
+    let told = rw (c.if-branch.true, i.cause.files.bytes) at (c.in_ok-next_in.ensures.line (i.cause.files.tells ∙ t)) in
     let collects = collects_here (form_of c.next_in.new.line.content) _ c.loop-line.collecting c.take.new.self false c.in_ok-take.field-0 (c.shape_of.ensures.form ∙ ap form_of c.as_bytes.ensures) c.if-not-branch.true (c.in_ok-take.ensures c.as_bytes.result.now) in
-    not_refused c.next_in.new.line.content _ (cut (rest (B.bytes c.args.bytes.now) c.loop-line.reader.input)) (cut (rest (B.bytes c.args.bytes.now) c.next_in.new.self.input)) c.loop-line.collecting c.take.new.self told.0 collects ((i.told t).1 h)
+    not_refused c.next_in.new.line.content _ (cut (rest (B.view c.args.bytes.now).bytes c.loop-line.reader.input)) (cut (rest (B.view c.args.bytes.now).bytes c.next_in.new.self.input)) c.loop-line.collecting c.take.new.self told.0 collects ((i.documents t).1 h)
 
 pub loop-line-preserved : goal.loop-line-preserved
 loop-line-preserved g c =
     let B = g.B.FileBytes in
-    let laws = g.met.B.FileBytes in
     let i = c.loop-line.invariant in
     let a = c.in_ok-next_in.ensures in
     let collects = collects_here (form_of c.next_in.new.line.content) _ c.loop-line.collecting c.take.new.self true c.in_ok-take.field-0 (c.shape_of.ensures.form ∙ ap form_of c.as_bytes.ensures) c.if-not-branch.false (c.in_ok-take.ensures c.as_bytes.result.now) in
     record {
-      goes = laws.joins _ _ _ i.goes a.goes;
-      pieces = pieces_on g.B.FileBytes.goes_by g.met.B.FileBytes.by_more c.args.reader.now.input c.loop-line.reader.input c.loop-line.reader.input.position c.args.bytes.now c.loop-line.bytes c.next_in.new.bytes c.loop-line.invariant.input c.loop-line.invariant.pieces a.pieces;
-      memory = λ z. a.cause.memory (i.memory z);
+      pieces = pieces_on _ g.met.B.FileBytes.by_more c.loop-line.invariant.input c.loop-line.invariant.pieces a.pieces;
+      cause = cause_join i.cause a.cause;
       fits = a.fits;
       input = a.input ∙ ap (moved_to c.next_in.new.self.input.position) i.input;
       docs = collects.docs ∙ i.docs;
       rises = collects.rises refl i.rises;
-      told = λ t.
-          let told = rw (c.if-branch.true, laws.same_bytes _ _ i.goes) at (a.told (laws.same_tells _ _ i.goes ∙ t)) in
-          let before = cut (rest (B.bytes c.args.bytes.now) c.loop-line.reader.input) in
-          let after = cut (rest (B.bytes c.args.bytes.now) c.next_in.new.self.input) in (
-            more_lines c.next_in.new.line.content _ before after c.loop-line.collecting c.take.new.self told.0 true refl collects ∙ (i.told t).0,
-            λ h. text_after c.next_in.new.line.content _ before after c.loop-line.collecting c.take.new.self told.0 true collects ((i.told t).1 h),
+      documents = λ t.
+          let told = rw (c.if-branch.true, i.cause.files.bytes) at (a.line (i.cause.files.tells ∙ t)) in
+          let before = cut (rest (B.view c.args.bytes.now).bytes c.loop-line.reader.input) in
+          let after = cut (rest (B.view c.args.bytes.now).bytes c.next_in.new.self.input) in (
+            more_lines c.next_in.new.line.content _ before after c.loop-line.collecting c.take.new.self told.0 true refl collects ∙ (i.documents t).0,
+            λ h. text_after c.next_in.new.line.content _ before after c.loop-line.collecting c.take.new.self told.0 true collects ((i.documents t).1 h),
           );
     }
 
-pub returns-clause-told : goal.returns-clause-told
-returns-clause-told g c = λ t.
+pub returns-clause-documents : goal.returns-clause-documents
+returns-clause-documents g c = λ t.
     let B = g.B.FileBytes in
-    let laws = g.met.B.FileBytes in
     let i = c.loop-line.invariant in
-    let none = rw (c.if-branch.false, laws.same_bytes _ _ i.goes) at (c.in_ok-next_in.ensures.told (laws.same_tells _ _ i.goes ∙ t)) in
-    sym (no_lines (rest (B.bytes c.args.bytes.now) c.loop-line.reader.input) c.loop-line.collecting none) ∙ (i.told t).0
+    let none = rw (c.if-branch.false, i.cause.files.bytes) at (c.in_ok-next_in.ensures.line (i.cause.files.tells ∙ t)) in
+    sym (no_lines (rest (B.view c.args.bytes.now).bytes c.loop-line.reader.input) c.loop-line.collecting none) ∙ (i.documents t).0

@@ -4,7 +4,8 @@ use Rattle.std.proofs.lemmas.Result.{err_from_is_err_and}
 use Rattle.directory_input.specs.Windows.{window_bytes, moved_to}
 use Rattle.text_lines.specs.Lines.{cut}
 use Rattle.text_lines.specs.Readers.{rest}
-use Rattle.text_lines.proofs.Ahead.{pieces_on, cause_on}
+use Rattle.text_lines.proofs.Ahead.{pieces_on, no_pieces}
+use Rattle.directory_input.proofs.Later.{cause_join, no_cause}
 use Rattle.simpletext_postings.specs.Postings.{form_of}
 use Rattle.simpletext_postings.specs.Openings.{past_after, IsKept}
 use Rattle.simpletext_postings.proofs.SoFar.{IsSoFar, begins, refused, bad_line, good_line, done, not_done, done_terms, outside_sum, takes_here, same_refusal}
@@ -13,12 +14,10 @@ use Rattle.simpletext_postings.proofs.lines.read_lines.Goals as goal
 pub loop-line-init : goal.loop-line-init
 loop-line-init g c =
     let B = g.B.FileBytes in
-    let laws = g.met.B.FileBytes in
     let start = c.requires.start in
     record {
-      goes = laws.stays _;
-      pieces = ([], tt, laws.by_none _);
-      memory = λ z. z;
+      pieces = no_pieces _ _ _ (g.met.B.FileBytes.by_none _);
+      cause = no_cause _;
       fits = c.requires.fits;
       input = refl;
       docs = refl;
@@ -27,80 +26,61 @@ loop-line-init g c =
         c.requires.of,
         subst (λ n. IsKept [] n c.args.opening.now) (sym start) c.requires.kept,
         λ t.
-            let text = window_bytes (B.bytes c.args.bytes.now) c.args.reader.now.input in
+            let text = window_bytes (B.view c.args.bytes.now).bytes c.args.reader.now.input in
             subst (λ n. IsSoFar c.args.opening.now.docs text [] n (cut (drop n text)) c.args.opening.now) (sym start) (begins c.args.opening.now.docs text c.args.opening.now c.requires.of c.requires.none),
       );
     }
 
 pub returns-in_err-next_in-clause-pieces : goal.returns-in_err-next_in-clause-pieces
-returns-in_err-next_in-clause-pieces g c = pieces_on g.B.FileBytes.goes_by g.met.B.FileBytes.by_more c.args.reader.now.input c.loop-line.reader.input c.loop-line.reader.input.position c.args.bytes.now c.loop-line.bytes c.next_in.new.bytes c.loop-line.invariant.input c.loop-line.invariant.pieces c.in_err-next_in.ensures.pieces
-
-pub returns-in_err-next_in-clause-goes : goal.returns-in_err-next_in-clause-goes
-returns-in_err-next_in-clause-goes g c = g.met.B.FileBytes.joins _ _ _ c.loop-line.invariant.goes c.in_err-next_in.ensures.goes
+returns-in_err-next_in-clause-pieces g c = pieces_on _ g.met.B.FileBytes.by_more c.loop-line.invariant.input c.loop-line.invariant.pieces c.in_err-next_in.ensures.pieces
 
 pub returns-in_err-take-clause-pieces : goal.returns-in_err-take-clause-pieces
-returns-in_err-take-clause-pieces g c = pieces_on g.B.FileBytes.goes_by g.met.B.FileBytes.by_more c.args.reader.now.input c.loop-line.reader.input c.loop-line.reader.input.position c.args.bytes.now c.loop-line.bytes c.next_in.new.bytes c.loop-line.invariant.input c.loop-line.invariant.pieces c.in_ok-next_in.ensures.pieces
-
-pub returns-in_err-take-clause-goes : goal.returns-in_err-take-clause-goes
-returns-in_err-take-clause-goes g c = g.met.B.FileBytes.joins _ _ _ c.loop-line.invariant.goes c.in_ok-next_in.ensures.goes
+returns-in_err-take-clause-pieces g c = pieces_on _ g.met.B.FileBytes.by_more c.loop-line.invariant.input c.loop-line.invariant.pieces c.in_ok-next_in.ensures.pieces
 
 pub returns-then-not-branch-clause-pieces : goal.returns-then-not-branch-clause-pieces
-returns-then-not-branch-clause-pieces g c = pieces_on g.B.FileBytes.goes_by g.met.B.FileBytes.by_more c.args.reader.now.input c.loop-line.reader.input c.loop-line.reader.input.position c.args.bytes.now c.loop-line.bytes c.next_in.new.bytes c.loop-line.invariant.input c.loop-line.invariant.pieces c.in_ok-next_in.ensures.pieces
-
-pub returns-then-not-branch-clause-goes : goal.returns-then-not-branch-clause-goes
-returns-then-not-branch-clause-goes g c = g.met.B.FileBytes.joins _ _ _ c.loop-line.invariant.goes c.in_ok-next_in.ensures.goes
+returns-then-not-branch-clause-pieces g c = pieces_on _ g.met.B.FileBytes.by_more c.loop-line.invariant.input c.loop-line.invariant.pieces c.in_ok-next_in.ensures.pieces
 
 pub returns-then-not-is_done-clause-pieces : goal.returns-then-not-is_done-clause-pieces
-returns-then-not-is_done-clause-pieces g c = pieces_on g.B.FileBytes.goes_by g.met.B.FileBytes.by_more c.args.reader.now.input c.loop-line.reader.input c.loop-line.reader.input.position c.args.bytes.now c.loop-line.bytes c.next_in.new.bytes c.loop-line.invariant.input c.loop-line.invariant.pieces c.in_ok-next_in.ensures.pieces
-
-pub returns-then-not-is_done-clause-goes : goal.returns-then-not-is_done-clause-goes
-returns-then-not-is_done-clause-goes g c = g.met.B.FileBytes.joins _ _ _ c.loop-line.invariant.goes c.in_ok-next_in.ensures.goes
+returns-then-not-is_done-clause-pieces g c = pieces_on _ g.met.B.FileBytes.by_more c.loop-line.invariant.input c.loop-line.invariant.pieces c.in_ok-next_in.ensures.pieces
 
 pub returns-clause-pieces : goal.returns-clause-pieces
-returns-clause-pieces g c = pieces_on g.B.FileBytes.goes_by g.met.B.FileBytes.by_more c.args.reader.now.input c.loop-line.reader.input c.loop-line.reader.input.position c.args.bytes.now c.loop-line.bytes c.next_in.new.bytes c.loop-line.invariant.input c.loop-line.invariant.pieces c.in_ok-next_in.ensures.pieces
+returns-clause-pieces g c = pieces_on _ g.met.B.FileBytes.by_more c.loop-line.invariant.input c.loop-line.invariant.pieces c.in_ok-next_in.ensures.pieces
 
-pub returns-clause-goes : goal.returns-clause-goes
-returns-clause-goes g c = g.met.B.FileBytes.joins _ _ _ c.loop-line.invariant.goes c.in_ok-next_in.ensures.goes
-
-pub returns-in_err-next_in-clause-told : goal.returns-in_err-next_in-clause-told
-returns-in_err-next_in-clause-told g c = λ t.
+pub returns-in_err-next_in-clause-rows : goal.returns-in_err-next_in-clause-rows
+returns-in_err-next_in-clause-rows g c = λ t.
     let B = g.B.FileBytes in
-    let laws = g.met.B.FileBytes in
     let i = c.loop-line.invariant in
     let (past, of, kept, so) = i.lines in
     let a = c.in_err-next_in.ensures in
-    let told = rw (laws.same_bytes _ _ i.goes) at (a.told (laws.same_tells _ _ i.goes ∙ t)) in
+    let told = rw (i.cause.files.bytes) at (a.line (i.cause.files.tells ∙ t)) in
     let p = err_from_is_err_and c.from_residual.result c.from_residual.ensures.1 in
-    rw (p.1, p.2) (refused (Unit {0}) c.args.opening.now.docs (window_bytes (B.bytes c.args.bytes.now) c.args.reader.now.input) past c.loop-line.reader.input.position
-    (rest (B.bytes c.args.bytes.now) c.loop-line.reader.input) c.loop-line.opening (so t) c.in_err-next_in.field-0.0 a.places.0 told)
+    rw (p.1, p.2) (refused (Unit {0}) c.args.opening.now.docs (window_bytes (B.view c.args.bytes.now).bytes c.args.reader.now.input) past c.loop-line.reader.input.position
+    (rest (B.view c.args.bytes.now).bytes c.loop-line.reader.input) c.loop-line.opening (so t) c.in_err-next_in.field-0.0 a.places.0 told)
 
 pub returns-in_err-next_in-clause-cause : goal.returns-in_err-next_in-clause-cause
 returns-in_err-next_in-clause-cause g c =
-    let laws = g.met.B.FileBytes in
     let i = c.loop-line.invariant in
     let p = err_from_is_err_and c.from_residual.result c.from_residual.ensures.1 in
     let e = same_refusal c.in_err-next_in.field-0.0 in
-    rw (p.1, p.2, sym e) (cause_on _ _ _ _ _ _ _ _ _ _ (laws.later _ _ i.goes) (laws.same_mount _ _ i.goes) i.memory c.in_err-next_in.ensures.cause)
+    rw (p.1, p.2, sym e) (cause_join i.cause c.in_err-next_in.ensures.cause)
 
-pub returns-then-not-branch-clause-told : goal.returns-then-not-branch-clause-told
-returns-then-not-branch-clause-told g c = λ t.
+pub returns-then-not-branch-clause-rows : goal.returns-then-not-branch-clause-rows
+returns-then-not-branch-clause-rows g c = λ t.
     let B = g.B.FileBytes in
-    let laws = g.met.B.FileBytes in
     let i = c.loop-line.invariant in
     let (past, of, kept, so) = i.lines in
     let a = c.in_ok-next_in.ensures in
     let places = rw c.if-branch.true at a.places in
-    let told = rw (c.if-branch.true, laws.same_bytes _ _ i.goes) at (a.told (laws.same_tells _ _ i.goes ∙ t)) in
+    let told = rw (c.if-branch.true, i.cause.files.bytes) at (a.line (i.cause.files.tells ∙ t)) in
     let takes = takes_here c.args.opening.now.docs c.loop-line.opening.docs past c.next_in.new.line.content c.as_bytes.result.now c.loop-line.reader.input.position c.next_in.new.line.at
     c.next_in.new.self.input.position c.pos.result c.loop-line.opening c.take.new.self false c.in_ok-take.field-0 i.docs c.as_bytes.ensures places.0 c.pos.ensures c.if-not-branch.true (c.in_ok-take.ensures.takes past of) in
-    bad_line c.args.opening.now.docs (window_bytes (B.bytes c.args.bytes.now) c.args.reader.now.input) past c.loop-line.reader.input.position c.next_in.new.self.input.position c.next_in.new.line.content
-    (cut (rest (B.bytes c.args.bytes.now) c.loop-line.reader.input)) (cut (rest (B.bytes c.args.bytes.now) c.next_in.new.self.input)) c.loop-line.opening (so t) told.0 told.1 places.1 c.take.new.self takes
+    bad_line c.args.opening.now.docs (window_bytes (B.view c.args.bytes.now).bytes c.args.reader.now.input) past c.loop-line.reader.input.position c.next_in.new.self.input.position c.next_in.new.line.content
+    (cut (rest (B.view c.args.bytes.now).bytes c.loop-line.reader.input)) (cut (rest (B.view c.args.bytes.now).bytes c.next_in.new.self.input)) c.loop-line.opening (so t) told.0 told.1 places.1 c.take.new.self takes
     ∙ ap (λ k. Err k) (sym places.0)
 
 pub loop-line-preserved : goal.loop-line-preserved
 loop-line-preserved g c =
     let B = g.B.FileBytes in
-    let laws = g.met.B.FileBytes in
     let i = c.loop-line.invariant in
     let (past, of, kept, so) = i.lines in
     let a = c.in_ok-next_in.ensures in
@@ -109,9 +89,8 @@ loop-line-preserved g c =
     c.next_in.new.self.input.position c.pos.result c.loop-line.opening c.take.new.self true c.in_ok-take.field-0 i.docs c.as_bytes.ensures places.0 c.pos.ensures c.if-not-branch.false (c.in_ok-take.ensures.takes past of) in
     let le : c.loop-line.reader.input.position ≤ c.next_in.new.self.input.position = omega (arith, places.1) in
     record {
-      goes = laws.joins _ _ _ i.goes a.goes;
-      pieces = pieces_on g.B.FileBytes.goes_by g.met.B.FileBytes.by_more c.args.reader.now.input c.loop-line.reader.input c.loop-line.reader.input.position c.args.bytes.now c.loop-line.bytes c.next_in.new.bytes c.loop-line.invariant.input c.loop-line.invariant.pieces a.pieces;
-      memory = λ z. a.cause.memory (i.memory z);
+      pieces = pieces_on _ g.met.B.FileBytes.by_more c.loop-line.invariant.input c.loop-line.invariant.pieces a.pieces;
+      cause = cause_join i.cause a.cause;
       fits = a.fits;
       input = a.input ∙ ap (moved_to c.next_in.new.self.input.position) i.input;
       docs = c.in_ok-take.ensures.docs ∙ i.docs;
@@ -120,42 +99,39 @@ loop-line-preserved g c =
         takes.after refl,
         takes.kept refl le kept,
         λ t.
-            let told = rw (c.if-branch.true, laws.same_bytes _ _ i.goes) at (a.told (laws.same_tells _ _ i.goes ∙ t)) in
-            good_line c.args.opening.now.docs (window_bytes (B.bytes c.args.bytes.now) c.args.reader.now.input) past c.loop-line.reader.input.position c.next_in.new.self.input.position c.next_in.new.line.content
-            (cut (rest (B.bytes c.args.bytes.now) c.loop-line.reader.input)) (cut (rest (B.bytes c.args.bytes.now) c.next_in.new.self.input)) c.loop-line.opening (so t) told.0 told.1 places.1 c.take.new.self takes kept,
+            let told = rw (c.if-branch.true, i.cause.files.bytes) at (a.line (i.cause.files.tells ∙ t)) in
+            good_line c.args.opening.now.docs (window_bytes (B.view c.args.bytes.now).bytes c.args.reader.now.input) past c.loop-line.reader.input.position c.next_in.new.self.input.position c.next_in.new.line.content
+            (cut (rest (B.view c.args.bytes.now).bytes c.loop-line.reader.input)) (cut (rest (B.view c.args.bytes.now).bytes c.next_in.new.self.input)) c.loop-line.opening (so t) told.0 told.1 places.1 c.take.new.self takes kept,
       );
     }
 
-pub returns-then-not-is_done-clause-told : goal.returns-then-not-is_done-clause-told
-returns-then-not-is_done-clause-told g c = λ t.
+pub returns-then-not-is_done-clause-rows : goal.returns-then-not-is_done-clause-rows
+returns-then-not-is_done-clause-rows g c = λ t.
     let B = g.B.FileBytes in
-    let laws = g.met.B.FileBytes in
     let i = c.loop-line.invariant in
     let (past, of, kept, so) = i.lines in
     let a = c.in_ok-next_in.ensures in
     let places = rw c.if-branch.false at a.places in
-    let none = rw (c.if-branch.false, laws.same_bytes _ _ i.goes) at (a.told (laws.same_tells _ _ i.goes ∙ t)) in
-    not_done c.args.opening.now.docs (window_bytes (B.bytes c.args.bytes.now) c.args.reader.now.input) past c.loop-line.reader.input.position (rest (B.bytes c.args.bytes.now) c.loop-line.reader.input) c.loop-line.opening
+    let none = rw (c.if-branch.false, i.cause.files.bytes) at (a.line (i.cause.files.tells ∙ t)) in
+    not_done c.args.opening.now.docs (window_bytes (B.view c.args.bytes.now).bytes c.args.reader.now.input) past c.loop-line.reader.input.position (rest (B.view c.args.bytes.now).bytes c.loop-line.reader.input) c.loop-line.opening
     (so t) none (sym (c.if-not-is_done.ensures past of)) ∙ ap (λ k. Err k) (sym places.0 ∙ sym c.pos-then-not-is_done.ensures)
 
-pub returns-clause-told : goal.returns-clause-told
-returns-clause-told g c = λ t.
+pub returns-clause-rows : goal.returns-clause-rows
+returns-clause-rows g c = λ t.
     let B = g.B.FileBytes in
-    let laws = g.met.B.FileBytes in
     let i = c.loop-line.invariant in
     let (past, of, kept, so) = i.lines in
     let a = c.in_ok-next_in.ensures in
-    let none = rw (c.if-branch.false, laws.same_bytes _ _ i.goes) at (a.told (laws.same_tells _ _ i.goes ∙ t)) in
-    done c.args.opening.now.docs (window_bytes (B.bytes c.args.bytes.now) c.args.reader.now.input) past c.loop-line.reader.input.position (rest (B.bytes c.args.bytes.now) c.loop-line.reader.input) c.loop-line.opening
+    let none = rw (c.if-branch.false, i.cause.files.bytes) at (a.line (i.cause.files.tells ∙ t)) in
+    done c.args.opening.now.docs (window_bytes (B.view c.args.bytes.now).bytes c.args.reader.now.input) past c.loop-line.reader.input.position (rest (B.view c.args.bytes.now).bytes c.loop-line.reader.input) c.loop-line.opening
     (so t) none (sym (c.if-not-is_done.ensures past of))
 
 pub returns-clause-terms : goal.returns-clause-terms
 returns-clause-terms g c = λ t.
     let B = g.B.FileBytes in
-    let laws = g.met.B.FileBytes in
     let i = c.loop-line.invariant in
     let (past, of, kept, so) = i.lines in
     let a = c.in_ok-next_in.ensures in
-    let none = rw (c.if-branch.false, laws.same_bytes _ _ i.goes) at (a.told (laws.same_tells _ _ i.goes ∙ t)) in
-    done_terms c.args.opening.now.docs (window_bytes (B.bytes c.args.bytes.now) c.args.reader.now.input) past c.loop-line.reader.input.position (rest (B.bytes c.args.bytes.now) c.loop-line.reader.input) c.loop-line.opening
+    let none = rw (c.if-branch.false, i.cause.files.bytes) at (a.line (i.cause.files.tells ∙ t)) in
+    done_terms c.args.opening.now.docs (window_bytes (B.view c.args.bytes.now).bytes c.args.reader.now.input) past c.loop-line.reader.input.position (rest (B.view c.args.bytes.now).bytes c.loop-line.reader.input) c.loop-line.opening
     (so t) none (of.outside (outside_sum past (sym (c.if-not-is_done.ensures past of))))

@@ -1,4 +1,5 @@
-use Rattle.std.proofs.Common.{◌≡◌, ◌≤◌, ◌+◌, ◌-◌, false}
+use Rattle.std.proofs.Common.{◌≡◌, ◌≤◌, ◌+◌, ◌-◌, None}
+use Rattle.directory_input.specs.Causes.{HasBytesCause}
 use Rattle.std.specs.Prelude.{IsTrue}
 use Rattle.directory_input.specs.Windows.{moved_to, window_bytes}
 use Rattle.text_lines.specs.Readers.{FitsBytes, ReadsPieces}
@@ -9,12 +10,11 @@ use Rattle.simpletext_stored.proofs.document.read_document.Given as goal
 
 abbrev pub invariant-lines : goal.invariant-lines
 invariant-lines g l = record {
-  goes : g.B.FileBytes.goes_on l.fn.bytes l.bytes;
   pieces : ReadsPieces g.B.FileBytes.goes_by l.fn.input l.fn.bytes l.bytes;
-  memory : g.B.FileBytes.wanted l.fn.bytes ≡ false → g.B.FileBytes.wanted l.bytes ≡ false;
-  fits : FitsBytes (g.B.FileBytes.count l.bytes) (g.B.FileBytes.length_of l.bytes) (g.B.FileBytes.tells l.bytes) (g.B.FileBytes.bytes l.bytes) l.reader;
+  cause : HasBytesCause (g.B.FileBytes.view l.fn.bytes) (g.B.FileBytes.view l.bytes) None;
+  fits : FitsBytes (g.B.FileBytes.view l.bytes) l.reader;
   input : l.reader.input ≡ moved_to l.reader.input.position l.fn.input;
-  state : (past : List Form) × Gathered l.doc (g.B.FileBytes.tells l.fn.bytes) (window_bytes (g.B.FileBytes.bytes l.fn.bytes) l.fn.input) past l.document l.reader.input.position;
+  state : (past : List Form) × Gathered l.doc (g.B.FileBytes.view l.fn.bytes).tells (window_bytes (g.B.FileBytes.view l.fn.bytes).bytes l.fn.input) past l.document l.reader.input.position;
 }
 
 abbrev pub decreases-lines : goal.decreases-lines

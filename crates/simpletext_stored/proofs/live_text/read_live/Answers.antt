@@ -3,98 +3,80 @@ use Rattle.std.specs.Prelude.{IsTrue}
 use Rattle.directory_input.specs.Windows.{Window, moved_to}
 use Rattle.text_lines.specs.Readers.{Reading}
 use Rattle.simpletext_stored.specs.Live.{form_of}
-use Rattle.text_lines.proofs.Ahead.{pieces_on, cause_on}
+use Rattle.text_lines.proofs.Ahead.{pieces_on, no_pieces}
+use Rattle.directory_input.proofs.Later.{cause_join, no_cause}
 use Rattle.simpletext_stored.proofs.Loop.{line_is, none_is, refuses_is, input_on, place_of_line, place_of_end, refusal_is}
 use Rattle.simpletext_stored.proofs.Listed.{none_listed, line_listed, line_refused, no_line, all_listed, not_all_listed}
 use Rattle.simpletext_stored.proofs.live_text.read_live.Goals as goal
 
 pub lines-init : goal.lines-init
 lines-init g c =
-    let laws = g.met.B.FileBytes in
     let e = ap (λ (r : Reading). r.input) c.in_ok-reader.ensures.stands in
     record {
-      goes = laws.stays _;
-      pieces = ([], tt, laws.by_none _);
-      memory = λ z. z;
-      fits = c.in_ok-reader.ensures.fits _ _ _ _ c.requires.fits;
+      pieces = no_pieces _ _ _ (g.met.B.FileBytes.by_none _);
+      cause = no_cause _;
+      fits = c.in_ok-reader.ensures.fits _ c.requires.fits;
       input = e ∙ ap (λ (w : Window). moved_to w.position c.args.input) (sym e);
       state = ([], none_listed c.args.docs _ _ c.new-state.result _ _ c.new-state.ensures c.in_ok-bits.ensures (ap (λ (w : Window). w.position) e ∙ c.requires.start));
     }
 
-pub returns-in-Err-clause-goes : goal.returns-in-Err-clause-goes
-returns-in-Err-clause-goes g c = g.met.B.FileBytes.joins _ _ _ c.lines.invariant.goes c.in-Err.ensures.goes
-
-pub returns-then-not-take-clause-goes : goal.returns-then-not-take-clause-goes
-returns-then-not-take-clause-goes g c = g.met.B.FileBytes.joins _ _ _ c.lines.invariant.goes c.in-Ok-true.ensures.goes
-
-pub returns-then-is_done-clause-goes : goal.returns-then-is_done-clause-goes
-returns-then-is_done-clause-goes g c = g.met.B.FileBytes.joins _ _ _ c.lines.invariant.goes c.in-Ok-false.ensures.goes
-
-pub returns-else-is_done-clause-goes : goal.returns-else-is_done-clause-goes
-returns-else-is_done-clause-goes g c = g.met.B.FileBytes.joins _ _ _ c.lines.invariant.goes c.in-Ok-false.ensures.goes
-
 pub returns-in-Err-clause-pieces : goal.returns-in-Err-clause-pieces
 returns-in-Err-clause-pieces g c =
-    pieces_on g.B.FileBytes.goes_by g.met.B.FileBytes.by_more c.args.input c.lines.reader.input c.lines.reader.input.position c.args.bytes.now c.lines.bytes c.next_in.new.bytes c.lines.invariant.input c.lines.invariant.pieces c.in-Err.ensures.pieces
+    pieces_on _ g.met.B.FileBytes.by_more c.lines.invariant.input c.lines.invariant.pieces c.in-Err.ensures.pieces
 
 pub returns-then-not-take-clause-pieces : goal.returns-then-not-take-clause-pieces
 returns-then-not-take-clause-pieces g c =
-    pieces_on g.B.FileBytes.goes_by g.met.B.FileBytes.by_more c.args.input c.lines.reader.input c.lines.reader.input.position c.args.bytes.now c.lines.bytes c.next_in.new.bytes c.lines.invariant.input c.lines.invariant.pieces c.in-Ok-true.ensures.pieces
+    pieces_on _ g.met.B.FileBytes.by_more c.lines.invariant.input c.lines.invariant.pieces c.in-Ok-true.ensures.pieces
 
 pub returns-then-is_done-clause-pieces : goal.returns-then-is_done-clause-pieces
 returns-then-is_done-clause-pieces g c =
-    pieces_on g.B.FileBytes.goes_by g.met.B.FileBytes.by_more c.args.input c.lines.reader.input c.lines.reader.input.position c.args.bytes.now c.lines.bytes c.next_in.new.bytes c.lines.invariant.input c.lines.invariant.pieces c.in-Ok-false.ensures.pieces
+    pieces_on _ g.met.B.FileBytes.by_more c.lines.invariant.input c.lines.invariant.pieces c.in-Ok-false.ensures.pieces
 
 pub returns-else-is_done-clause-pieces : goal.returns-else-is_done-clause-pieces
 returns-else-is_done-clause-pieces g c =
-    pieces_on g.B.FileBytes.goes_by g.met.B.FileBytes.by_more c.args.input c.lines.reader.input c.lines.reader.input.position c.args.bytes.now c.lines.bytes c.next_in.new.bytes c.lines.invariant.input c.lines.invariant.pieces c.in-Ok-false.ensures.pieces
+    pieces_on _ g.met.B.FileBytes.by_more c.lines.invariant.input c.lines.invariant.pieces c.in-Ok-false.ensures.pieces
 
 pub returns-in-Err-clause-cause : goal.returns-in-Err-clause-cause
 returns-in-Err-clause-cause g c =
-    let laws = g.met.B.FileBytes in
     let i = c.lines.invariant in
-    rw (c.from.ensures, refusal_is c.in-Err.e) (cause_on _ _ _ _ _ _ _ _ _ _ (laws.later _ _ i.goes) (laws.same_mount _ _ i.goes) i.memory c.in-Err.ensures.cause)
+    rw (c.from.ensures, refusal_is c.in-Err.e) (cause_join i.cause c.in-Err.ensures.cause)
 
-pub returns-in-Err-clause-told : goal.returns-in-Err-clause-told
-returns-in-Err-clause-told g c = λ t.
-    let laws = g.met.B.FileBytes in
+pub returns-in-Err-clause-documents : goal.returns-in-Err-clause-documents
+returns-in-Err-clause-documents g c = λ t.
     let i = c.lines.invariant in
     let k = c.in-Err.ensures in
     let (past, listed) = i.state in
-    let refuses = refuses_is (g.B.FileBytes.bytes c.args.bytes.now) (g.B.FileBytes.bytes c.lines.bytes) c.args.input c.lines.reader.input (laws.same_bytes _ _ i.goes) i.input c.in-Err.e (k.told (laws.same_tells _ _ i.goes ∙ t)) in
+    let refuses = refuses_is (g.B.FileBytes.view c.args.bytes.now).bytes (g.B.FileBytes.view c.lines.bytes).bytes c.args.input c.lines.reader.input i.cause.files.bytes i.input c.in-Err.e (k.line (i.cause.files.tells ∙ t)) in
     rw c.from.ensures (no_line c.args.docs _ _ past c.lines.state c.lines.bits _ listed c.in-Err.e t k.places.0 refuses)
 
-pub returns-then-not-take-clause-told : goal.returns-then-not-take-clause-told
-returns-then-not-take-clause-told g c = λ t.
-    let laws = g.met.B.FileBytes in
+pub returns-then-not-take-clause-documents : goal.returns-then-not-take-clause-documents
+returns-then-not-take-clause-documents g c = λ t.
     let i = c.lines.invariant in
     let k = c.in-Ok-true.ensures in
     let (past, listed) = i.state in
     let place = place_of_line c.in-Ok-true.field-0 c.next_in.new.line _ _ _ c.in-Ok-true.field-0-test k.places in
-    let line = λ (t : IsTrue (g.B.FileBytes.tells c.args.bytes.now)). line_is (g.B.FileBytes.bytes c.args.bytes.now) (g.B.FileBytes.bytes c.lines.bytes) c.args.input c.lines.reader.input (laws.same_bytes _ _ i.goes) i.input
-    c.next_in.new.self.input k.input c.in-Ok-true.field-0 c.next_in.new.line c.in-Ok-true.field-0-test (k.told (laws.same_tells _ _ i.goes ∙ t)) in
+    let line = λ (t : IsTrue (g.B.FileBytes.view c.args.bytes.now).tells). line_is (g.B.FileBytes.view c.args.bytes.now).bytes (g.B.FileBytes.view c.lines.bytes).bytes c.args.input c.lines.reader.input i.cause.files.bytes i.input
+    c.next_in.new.self.input k.input c.in-Ok-true.field-0 c.next_in.new.line c.in-Ok-true.field-0-test (k.line (i.cause.files.tells ∙ t)) in
     let step = rw (c.form_of-form.ensures, c.as_bytes.ensures) at (c.take.ensures past listed.is) in
     line_refused c.args.docs _ _ past c.lines.state c.lines.bits _ listed c.next_in.new.line.content _ place.1 line c.take.new.self c.take.result c.if-not-take.true step t ∙ ap Err (sym place.0)
 
-pub returns-then-is_done-clause-told : goal.returns-then-is_done-clause-told
-returns-then-is_done-clause-told g c = λ t.
-    let laws = g.met.B.FileBytes in
+pub returns-then-is_done-clause-documents : goal.returns-then-is_done-clause-documents
+returns-then-is_done-clause-documents g c = λ t.
     let i = c.lines.invariant in
     let k = c.in-Ok-false.ensures in
     let (past, listed) = i.state in
-    let none = none_is (g.B.FileBytes.bytes c.args.bytes.now) (g.B.FileBytes.bytes c.lines.bytes) c.args.input c.lines.reader.input (laws.same_bytes _ _ i.goes) i.input
-    c.next_in.new.self.input _ c.in-Ok-false.field-0 c.next_in.new.line c.in-Ok-false.field-0-test (k.told (laws.same_tells _ _ i.goes ∙ t)) in
+    let none = none_is (g.B.FileBytes.view c.args.bytes.now).bytes (g.B.FileBytes.view c.lines.bytes).bytes c.args.input c.lines.reader.input i.cause.files.bytes i.input
+    c.next_in.new.self.input _ c.in-Ok-false.field-0 c.next_in.new.line c.in-Ok-false.field-0-test (k.line (i.cause.files.tells ∙ t)) in
     all_listed c.args.docs _ _ past c.lines.state c.lines.bits _ listed (sym c.if-is_done.ensures) t none
 
-pub returns-else-is_done-clause-told : goal.returns-else-is_done-clause-told
-returns-else-is_done-clause-told g c = λ t.
-    let laws = g.met.B.FileBytes in
+pub returns-else-is_done-clause-documents : goal.returns-else-is_done-clause-documents
+returns-else-is_done-clause-documents g c = λ t.
     let i = c.lines.invariant in
     let k = c.in-Ok-false.ensures in
     let (past, listed) = i.state in
     let place = place_of_end c.in-Ok-false.field-0 c.next_in.new.line _ _ _ c.in-Ok-false.field-0-test k.places in
-    let none = none_is (g.B.FileBytes.bytes c.args.bytes.now) (g.B.FileBytes.bytes c.lines.bytes) c.args.input c.lines.reader.input (laws.same_bytes _ _ i.goes) i.input
-    c.next_in.new.self.input _ c.in-Ok-false.field-0 c.next_in.new.line c.in-Ok-false.field-0-test (k.told (laws.same_tells _ _ i.goes ∙ t)) in
+    let none = none_is (g.B.FileBytes.view c.args.bytes.now).bytes (g.B.FileBytes.view c.lines.bytes).bytes c.args.input c.lines.reader.input i.cause.files.bytes i.input
+    c.next_in.new.self.input _ c.in-Ok-false.field-0 c.next_in.new.line c.in-Ok-false.field-0-test (k.line (i.cause.files.tells ∙ t)) in
     not_all_listed c.args.docs _ _ past c.lines.state c.lines.bits _ listed (sym c.if-is_done.ensures) t none ∙ ap Err (sym (c.pos.ensures ∙ place.0))
 
 pub lines-preserved : goal.lines-preserved
@@ -104,13 +86,12 @@ lines-preserved g c =
     let k = c.in-Ok-true.ensures in
     let (past, listed) = i.state in
     let place = place_of_line c.in-Ok-true.field-0 c.next_in.new.line _ _ _ c.in-Ok-true.field-0-test k.places in
-    let line = λ (t : IsTrue (g.B.FileBytes.tells c.args.bytes.now)). line_is (g.B.FileBytes.bytes c.args.bytes.now) (g.B.FileBytes.bytes c.lines.bytes) c.args.input c.lines.reader.input (laws.same_bytes _ _ i.goes) i.input
-    c.next_in.new.self.input k.input c.in-Ok-true.field-0 c.next_in.new.line c.in-Ok-true.field-0-test (k.told (laws.same_tells _ _ i.goes ∙ t)) in
+    let line = λ (t : IsTrue (g.B.FileBytes.view c.args.bytes.now).tells). line_is (g.B.FileBytes.view c.args.bytes.now).bytes (g.B.FileBytes.view c.lines.bytes).bytes c.args.input c.lines.reader.input i.cause.files.bytes i.input
+    c.next_in.new.self.input k.input c.in-Ok-true.field-0 c.next_in.new.line c.in-Ok-true.field-0-test (k.line (i.cause.files.tells ∙ t)) in
     let step = rw (c.form_of-form.ensures, c.as_bytes.ensures) at (c.take.ensures past listed.is) in
     record {
-      goes = laws.joins _ _ _ i.goes k.goes;
-      pieces = pieces_on g.B.FileBytes.goes_by laws.by_more c.args.input c.lines.reader.input c.lines.reader.input.position c.args.bytes.now c.lines.bytes c.next_in.new.bytes i.input i.pieces k.pieces;
-      memory = λ z. k.cause.memory (i.memory z);
+      pieces = pieces_on _ laws.by_more i.input i.pieces k.pieces;
+      cause = cause_join i.cause k.cause;
       fits = k.fits;
       input = input_on c.args.input c.lines.reader.input c.next_in.new.self.input i.input k.input;
       state = (form_of c.next_in.new.line.content ∷ past, rw (c.list.ensures, c.form_of-form.ensures, c.as_bytes.ensures) (line_listed c.args.docs _ _ past c.lines.state c.lines.bits _ listed c.next_in.new.line.content _ place.1 line c.take.new.self c.take.result c.if-not-take.false step));

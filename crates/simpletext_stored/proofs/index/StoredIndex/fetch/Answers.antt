@@ -34,14 +34,13 @@ read_document-requires-clause-fits g c =
     let order = between i.places.items i.input.size c.args.doc inv.rising below in
     let p = place_is i.places.items c.args.doc c.index-from.result.now (omega (arith, below)) c.index-from.ensures in
     let q = place_is i.places.items (c.args.doc + 1) c.index-till.result.now below c.index-till.ensures in
-    let B = g.B.FileBytes in
     let now = c.args.bytes.now in
     let le : c.index-from.result.now + (c.index-till.result.now - c.index-from.result.now) ≤ i.input.size = omega (arith, order.0, order.1, p, q) in
-    part_fits (B.count now) (B.length_of now) (B.tells now) (B.bytes now) i.input c.part-lines.result c.index-from.result.now (c.index-till.result.now - c.index-from.result.now)
+    part_fits (g.B.FileBytes.view now) i.input c.part-lines.result c.index-from.result.now (c.index-till.result.now - c.index-from.result.now)
     c.part-lines.ensures le (rw (sym c.self.view_is) at c.requires.file)
 
-pub returns-in-Ok-clause-told : goal.returns-in-Ok-clause-told
-returns-in-Ok-clause-told g c = λ t.
+pub returns-in-Ok-clause-fields : goal.returns-in-Ok-clause-fields
+returns-in-Ok-clause-fields g c = λ t.
     let i = c.self.inside in
     let inv = c.self.invariant in
     let index : StoredPlaces = record { input = i.input; docs = i.docs; places = i.places.items } in
@@ -49,8 +48,8 @@ returns-in-Ok-clause-told g c = λ t.
     let p = place_is i.places.items c.args.doc c.index-from.result.now (omega (arith, below)) c.index-from.ensures in
     let q = place_is i.places.items (c.args.doc + 1) c.index-till.result.now below c.index-till.ensures in
     let lines = c.part-lines.ensures ∙ ap₂ (λ x y. part_of i.input x (y - x)) p q in
-    let fits = rw (sym c.self.view_is) at c.requires.told in
-    rw (sym c.self.view_is) (fetched (g.B.FileBytes.bytes c.args.bytes.now) index inv c.args.doc c.if-doc-self.false (fits t) c.part-lines.result lines c.in-Ok.fields.items (c.in-Ok.ensures.told t))
+    let fits = rw (sym c.self.view_is) at c.requires.text in
+    rw (sym c.self.view_is) (fetched (g.B.FileBytes.view c.args.bytes.now).bytes index inv c.args.doc c.if-doc-self.false (fits t) c.part-lines.result lines c.in-Ok.fields.items (c.in-Ok.ensures.fields t))
 
 pub returns-in-Err-Bad-clause-never_bad : goal.returns-in-Err-Bad-clause-never_bad
 returns-in-Err-Bad-clause-never_bad g c = λ t.
@@ -61,6 +60,6 @@ returns-in-Err-Bad-clause-never_bad g c = λ t.
     let p = place_is i.places.items c.args.doc c.index-from.result.now (omega (arith, below)) c.index-from.ensures in
     let q = place_is i.places.items (c.args.doc + 1) c.index-till.result.now below c.index-till.ensures in
     let lines = c.part-lines.ensures ∙ ap₂ (λ x y. part_of i.input x (y - x)) p q in
-    let fits = rw (sym c.self.view_is) at c.requires.told in
+    let fits = rw (sym c.self.view_is) at c.requires.text in
     let read = rw c.in-Err-Bad.field-0-is at (c.in-Err-Bad.ensures.refused t) in
-    never (g.B.FileBytes.bytes c.args.bytes.now) index inv c.args.doc c.if-doc-self.false (fits t) c.part-lines.result lines c.in-Err-Bad.at read
+    never (g.B.FileBytes.view c.args.bytes.now).bytes index inv c.args.doc c.if-doc-self.false (fits t) c.part-lines.result lines c.in-Err-Bad.at read
