@@ -53,13 +53,18 @@ impl<'a, A: Archive, S: BlobSource<A>> FileBytes for DirectBytes<'a, A, S> {
     ghost view = { λ d. files_view A.tells A.blobs d.table.now (S.view d.source.now) d.out_of_memory };
 
     ghost goes_by = { λ rs x y. (y.source.ghost_name ≡ x.source.ghost_name) × (y.table ≡ x.table)
-        × ReadsOn A.tells A.blobs x.table.now rs x.out_of_memory y.out_of_memory (S.view x.source.now) (S.view y.source.now) };
+        × ReadsOn A.tells A.blobs x.table.now rs x.out_of_memory y.out_of_memory
+        (S.view x.source.now) (S.view y.source.now) };
 
     ghost by_none = { λ x. (refl, refl, no_reads A.tells A.blobs x.table.now x.out_of_memory (S.view x.source.now)) };
 
-    ghost by_more = { λ rs ss x y z h k. (k.0 ∙ h.0, k.1 ∙ h.1, more_of_same A.tells A.blobs x.table.now y.table.now rs ss
-        x.out_of_memory y.out_of_memory z.out_of_memory (S.view x.source.now) (S.view y.source.now) (S.view z.source.now)
-        (ap (λ t. t.now) h.1) h.2 k.2) };
+    ghost by_more = { λ rs ss x y z h k. (
+      k.0 ∙ h.0,
+      k.1 ∙ h.1,
+      more_of_same A.tells A.blobs x.table.now y.table.now rs ss x.out_of_memory y.out_of_memory z.out_of_memory
+          (S.view x.source.now) (S.view y.source.now) (S.view z.source.now)
+          (ap (λ t. t.now) h.1) h.2 k.2,
+    ) };
 
     ghost later = { λ rs x y h. files_later A.tells A.blobs x.table.now y.table.now rs x.out_of_memory y.out_of_memory
         (S.view x.source.now) (S.view y.source.now) (ap (λ t. t.now) h.1) h.2 };

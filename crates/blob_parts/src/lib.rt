@@ -14,4 +14,3 @@ pub use piece::{Piece, fetch};
 pub use read::{FetchError, read_into};
 pub use resolving::{ResolveError, resolve};
 pub use table::PartTable;
-

@@ -46,7 +46,8 @@ fn locate<A: Archive, S: BlobSource<A>>(source: &mut S, name: &str) -> Result<Lo
     ensures refusal { IsTrue A.tells → IfErr result (λ e. Refusal A.blobs name.now e) }
     ensures source { SourceLater (S.view source.old) (S.view source.new) (IsErrOf result LoadError.Fault) }
     ensures reads { (S.view source.new).reads ≡ (S.view source.old).reads }
-    ensures refused { IfErr result (λ e. RefusedTakes (S.view source.old).reads (S.view source.new).reads (asked A.blobs name.now) e) }
+    ensures refused { IfErr result
+        (λ e. RefusedTakes (S.view source.old).reads (S.view source.new).reads (asked A.blobs name.now) e) }
 {
     let number = match source.manifest(name) {
         Ok(Some(number)) => number,
@@ -133,7 +134,8 @@ pub fn load<A: Archive, S: BlobSource<A>>(
     ensures loads { IsTrue A.tells → Loads A.blobs name.now result }
     ensures small { IfOk result (λ loaded. loaded.0 < 65536) }
     ensures source { SourceLater (S.view source.old) (S.view source.new) (IsErrOf result LoadError.Fault) }
-    ensures reads { IsTrue A.tells → LoadTakes (S.view source.old).reads (S.view source.new).reads (asked A.blobs name.now) result }
+    ensures reads { IsTrue A.tells
+        → LoadTakes (S.view source.old).reads (S.view source.new).reads (asked A.blobs name.now) result }
 {
     let found = locate::<A, S>(source, name)?;
     if found.size > LONGEST {

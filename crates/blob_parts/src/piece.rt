@@ -30,7 +30,8 @@ impl<A: Archive> Model for Piece<A> {
 
     ghost view = { λ p. record { manifest = p.file.manifest; file = p.file.file; at = p.at; bytes = p.bytes } };
 
-    ghost invariant = { λ p. IsTrue A.tells → IsPiece A.blobs (record { manifest = p.file.manifest; file = p.file.file; at = p.at; bytes = p.bytes }) };
+    ghost invariant = { λ p. IsTrue A.tells
+        → IsPiece A.blobs (record { manifest = p.file.manifest; file = p.file.file; at = p.at; bytes = p.bytes }) };
 }
 
 impl<A: Archive> Piece<A> {
@@ -52,7 +53,7 @@ impl<A: Archive> Piece<A> {
     /// Its bytes.
     pub fn bytes(&self) -> &[u8]
         ensures value { result.now ≡ self.now.bytes }
-        ensures told { IsTrue A.tells → IsPiece A.blobs self.now }
+        ensures content { IsTrue A.tells → IsPiece A.blobs self.now }
     {
         self.bytes.as_bytes()
     }
@@ -75,9 +76,11 @@ pub fn fetch<A: Archive, S: BlobSource<A>>(
     requires short { len ≤ 65536 }
     requires inside { at + len ≤ file_length table.now file }
     ensures piece { IfOk result (IsPieceAt table.now.number file at len) }
-    ensures bytes { IsTrue A.tells → IfOk result (λ p. p.bytes ≡ slice_of (content A.blobs table.now.number file) at len) }
+    ensures bytes { IsTrue A.tells
+        → IfOk result (λ p. p.bytes ≡ slice_of (content A.blobs table.now.number file) at len) }
     ensures source { SourceLater (S.view source.old) (S.view source.new) (IsErrOf result FetchError.Fault) }
-    ensures reads { IsTrue A.tells → Takes (S.view source.old).reads (S.view source.new).reads (slice_of (content_places A.blobs table.now.number file) at len) result }
+    ensures reads { IsTrue A.tells → Takes (S.view source.old).reads (S.view source.new).reads
+        (slice_of (content_places A.blobs table.now.number file) at len) result }
 {
     let mut bytes = vec![in alloc; 0; len as usize]?;
     read_into(source, table, file, at, &mut bytes)?;

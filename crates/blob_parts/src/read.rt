@@ -70,9 +70,11 @@ fn read_some<A: Archive, S: BlobSource<A>>(
     requires some { 0 < length out.old }
     requires inside { at + length out.old ≤ file_length table.now file }
     ensures count { IfOk result (λ n. (0 < n) × (n ≤ length out.old)) }
-    ensures bytes { IsTrue A.tells → IfOk result (λ n. take n out.new ≡ slice_of (content A.blobs table.now.number file) at n) }
+    ensures bytes { IsTrue A.tells
+        → IfOk result (λ n. take n out.new ≡ slice_of (content A.blobs table.now.number file) at n) }
     ensures source { SourceLater (S.view source.old) (S.view source.new) (IsErrOf result FetchError.Fault) }
-    ensures reads { IsTrue A.tells → IfOk result (λ n. Took (S.view source.old).reads (S.view source.new).reads (slice_of (content_places A.blobs table.now.number file) at n)) }
+    ensures reads { IsTrue A.tells → IfOk result (λ n. Took (S.view source.old).reads (S.view source.new).reads
+        (slice_of (content_places A.blobs table.now.number file) at n)) }
     ensures unread { IsErr result → (S.view source.new).reads ≡ (S.view source.old).reads }
 {
     let place = table.place(file, at);
@@ -94,9 +96,11 @@ pub fn read_into<A: Archive, S: BlobSource<A>>(
 ) -> Result<(), FetchError>
     requires file { file < length table.now.files }
     requires inside { at + length out.old ≤ file_length table.now file }
-    ensures bytes { IsTrue A.tells → OnOk result (out.new ≡ slice_of (content A.blobs table.now.number file) at (length out.old)) }
+    ensures bytes { IsTrue A.tells
+        → OnOk result (out.new ≡ slice_of (content A.blobs table.now.number file) at (length out.old)) }
     ensures source { SourceLater (S.view source.old) (S.view source.new) (IsErrOf result FetchError.Fault) }
-    ensures reads { IsTrue A.tells → Takes (S.view source.old).reads (S.view source.new).reads (slice_of (content_places A.blobs table.now.number file) at (length out.old)) result }
+    ensures reads { IsTrue A.tells → Takes (S.view source.old).reads (S.view source.new).reads
+        (slice_of (content_places A.blobs table.now.number file) at (length out.old)) result }
 {
     let _length = table.length(file);
     let mut done = 0;

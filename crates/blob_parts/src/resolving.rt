@@ -115,7 +115,8 @@ fn size_part<A: Archive, S: BlobSource<A>>(
     requires part { k < parts_of file.now }
     requires named { IsTrue A.tells → place_of (part_name file.now k) A.blobs ≡ Some blob }
     ensures wrong { IsTrue A.tells → Resolves result (wrong_part A.blobs file.now k) }
-    ensures size { IsTrue A.tells → OnOk result (blob_size A.blobs blob ≡ part_length file.now.length file.now.part_size k) }
+    ensures size { IsTrue A.tells
+        → OnOk result (blob_size A.blobs blob ≡ part_length file.now.length file.now.part_size k) }
     ensures source { SourceLater (S.view source.old) (S.view source.new) (IsErrOf result Fault) }
     ensures reads { (S.view source.new).reads ≡ (S.view source.old).reads }
 {
@@ -193,7 +194,8 @@ fn size_files<A: Archive, S: BlobSource<A>>(
     requires count { length entries.now ≡ length manifest.now.files }
     requires entries { AreEntries A.tells A.blobs manifest.now.files (map parts_in entries.now) }
     ensures wrong { IsTrue A.tells → Resolves result (first_of (wrong_in A.blobs) manifest.now.files) }
-    ensures sized { IsTrue A.tells → OnOk result (AllSized A.blobs (length manifest.now.files) manifest.now.files (map parts_in entries.now)) }
+    ensures sized { IsTrue A.tells
+        → OnOk result (AllSized A.blobs (length manifest.now.files) manifest.now.files (map parts_in entries.now)) }
     ensures source { SourceLater (S.view source.old) (S.view source.new) (IsErrOf result Fault) }
     ensures reads { (S.view source.new).reads ≡ (S.view source.old).reads }
 {

@@ -1,3 +1,4 @@
+// Named blobs of bytes, in order.
 ghost use Rattle.std.specs.Prelude.{◌≡◌, ◌↔◌, IsTrue, ◌<◌, ◌++◌, ◌∷◌, [], List, ℕ, length, OnOk, OnErr, slice_get, Some};
 
 use crate::{Name, Text};

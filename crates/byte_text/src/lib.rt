@@ -8,3 +8,13 @@ mod text;
 pub use blobs::Blobs;
 pub use name::Name;
 pub use text::Text;
+
+// A missing proof of `Send` or `Sync` shows here, and not first at the threads above.
+fn crosses<T: Send + Sync>() {}
+
+/// Names, texts and lists of blobs may be shared by threads.
+pub fn texts_cross() {
+    crosses::<Name>();
+    crosses::<Text>();
+    crosses::<Blobs>();
+}

@@ -1,3 +1,4 @@
+// Any bytes, as what a file, a term or a field holds.
 ghost use Rattle.std.specs.Prelude.{◌≡◌, ◌++◌, ◌∷◌, [], List, ℕ, IfOk, OnErr, OnOk};
 
 use std::alloc::{AllocError, Global};

@@ -1,7 +1,9 @@
 -- What the tests say of a frame that fails, of a core, and of a cell step by step.
-use Rattle.std.specs.Prelude.{◌≡◌, ℕ, true, false, List, length}
+use Rattle.std.specs.Prelude.{◌≡◌, ◌+◌, ◌*◌, ℕ, true, false, List, length}
 use Rattle.region_ranges.specs.declared.keys.Config.{Config}
+use Rattle.region_ranges.specs.declared.ranges.ByteRange.{ByteRange}
 use Rattle.cache_outside.specs.Frames.{FrameView}
+use Rattle.cache_door.specs.declared.answers.Want.{Want}
 use Rattle.cache_door.specs.Cores.{CoreView}
 
 abbrev pub faulty_view : List ℕ → ℕ → FrameView
@@ -10,3 +12,7 @@ faulty_view bytes faults = record { size = length bytes; tells = true; steady = 
 -- a core of two actors with these settings
 abbrev pub IsCore : Config → CoreView → Type 0
 IsCore config core = (core.config ≡ config) × (length core.holds ≡ 2)
+
+-- what is wanted is of the first file of this manifest, and begins where the part of the file does
+abbrev pub IsOfPart : ℕ → ℕ → ByteRange → Want → Type 0
+IsOfPart manifest size part want = (want.key.manifest ≡ manifest) × (want.key.file ≡ 0) × (want.key.region * size + want.sub.start ≡ part.start)

@@ -14,6 +14,7 @@ use Rattle.cache_door.specs.declared.answers.Want.{Want}
 use Rattle.cache_door.specs.declared.hold.Hold.{Hold}
 use Rattle.cache_door.specs.Machine as machine
 use Rattle.cache_door.specs.Machine.{State, Cell, cell_at, hold_at, with_cell, settled_by, evicted, evicted_by, room_by, unheld_by, make_room, no_cell}
+use Rattle.cache_door.specs.Doors.{IsHeld}
 use Rattle.cache_door.specs.Counters.{CountersRisen, counters_same}
 use Rattle.cache_door.specs.Cores.{CoreView, view_at, all_tell, cell_of, state_of, no_frame, Later}
 use Rattle.cache_door.proofs.Places.{same_is}
@@ -104,6 +105,19 @@ assigned_later v u r c p h within e =
     let P : CoreView → Type 0 = λ q. Later v q in
     let l = changed_later v r (with_region c (view_at v.cells r)) within refl in
     subst P (sym e) (record { config = refl; actors = refl; tell = l.tell; steady = l.steady; faults = l.faults; stands = l.stands; counters = h })
+
+-- ---- what the machine answers where memory is asked
+
+pub mapped_held : (v : CoreView) (r a now : ℕ) (want : Want) → r < length v.cells → len_of (view_at v.cells r).metadata.region ≡ want.len → IsHeld (machine.enter_at (Some r) a want now (state_of v)).0
+mapped_held v r a now want within l =
+    let c : len_of (cell_at (state_of v) r).region ≡ want.len = ap (λ (q : Cell). len_of q.region) (cell_is v r within) ∙ l in
+    rw (same_is (len_of (cell_at (state_of v) r).region) want.len c) tt
+
+pub other_held : (v : CoreView) (r a now : ℕ) (want : Want) → head (room_by v.holds v.policy).free ≡ Some r → IsHeld (machine.enter_at None a want now (state_of v)).0
+other_held v r a now want front =
+    let s = state_of v in
+    let P : Option ℕ → Type 0 = λ o. IsHeld (machine.place a o (make_room s) want now s).0 in
+    subst P (sym front) tt
 
 -- ---- the entry of a mapped key
 

@@ -1,10 +1,10 @@
 -- The steps of an entry on a core: an access, room, an assignment, and the hold.
-use Rattle.std.proofs.Common.{arith, ◌≡◌, ◌≢◌, ◌<◌, ◌≤◌, ◌+◌, ◌-◌, ◌*◌, ◌/◌, ℕ, zero, suc, Bool, true, false, List, [], ◌∷◌, sym, subst, ◌∙◌, ap, inl, inr, refl, length, set, get_or, Option, Some, None}
-use Rattle.std.specs.Prelude.{Result, Ok, Err, OnOk, OnErr, ◌==◌, not, IfSome, slice_get, option_and_then, if◌then◌else◌}
-use Rattle.std.proofs.lemmas.Bool.{cases_eq, cases_Bool, cases_lt, false≢true}
+use Rattle.std.proofs.Common.{arith, ◌≡◌, ◌≢◌, ◌<◌, ◌≤◌, ◌+◌, ◌-◌, ◌*◌, ◌/◌, ℕ, zero, suc, Bool, false, List, [], ◌∷◌, sym, subst, ◌∙◌, ap, inl, inr, refl, length, set, get_or, Option, Some, None}
+use Rattle.std.specs.Prelude.{Result, Ok, Err, OnOk, OnErr, ◌==◌, IfSome, slice_get, option_and_then, if◌then◌else◌}
+use Rattle.std.proofs.lemmas.Bool.{cases_eq, cases_Bool, false≢true}
 use Rattle.region_ranges.specs.Keys.{free_tag, tag_of}
 use Rattle.sparse_tracker.specs.Weights.{TicketWeights, GapWeights}
-use Rattle.freq_lists.specs.Lists.{is_in, head, times_in}
+use Rattle.freq_lists.specs.Lists.{head}
 use Rattle.cache_policy.specs.Policy.{PolicyView, tag_at, unmap}
 use Rattle.cache_policy.specs.Ageing.{touch, map_front, candidates}
 use Rattle.cache_policy.specs.Kept as policy
@@ -18,15 +18,14 @@ use Rattle.cache_door.specs.declared.work.Work.{Work}
 use Rattle.cache_door.specs.Machine as machine
 use Rattle.cache_door.specs.Machine.{State, Cell, cell_at, hold_at, with_hold, with_cell, settled, settled_by, evicted, evicted_by, room_by, is_held, is_held_by, unheld_by, hold_on}
 use Rattle.cache_door.specs.Good.{Good, GoodCell}
-use Rattle.cache_door.specs.Doors.{HoldView, hold_view, nothing, IsEntry}
+use Rattle.cache_door.specs.Doors.{HoldView, hold_view, nothing, IsEntry, IsWant}
 use Rattle.cache_door.specs.Cores.{CoreView, view_at, all_tell, cell_of, state_of, no_frame, IsKept, Later}
-use Rattle.cache_door.proofs.Places.{same_is, other_is, head_passes}
+use Rattle.cache_door.proofs.Places.{same_is, other_is}
 use Rattle.cache_door.proofs.Policies.{touch_changes, settled_changes, unmap_changes}
 use Rattle.cache_door.proofs.Mapping.{Maps, maps_keeps, free_unheld, no_tickets, no_gaps, head_in}
 use Rattle.cache_door.proofs.Fronts.{unheld_first, mapped_there, free_there, front_there}
-use Rattle.cache_door.proofs.Calls.{hold_changes, mapped_inside, mapped_busy}
+use Rattle.cache_door.proofs.Calls.{hold_changes, mapped_busy}
 use Rattle.cache_door.proofs.Frames.{cell_is, state_set, length_map, set_same}
-use Rattle.cache_door.proofs.Walks.{choose_free, choose_leaving, choose_candidate, candidate_times}
 use Rattle.cache_door.proofs.Kept.{policy_kept, cell_kept, new_good, set_sized}
 use Rattle.cache_door.proofs.Held.{frame_same, read_is, left_later, left_state}
 
@@ -247,6 +246,14 @@ module _ {tells : Bool} {files : ℕ → ℕ → List ℕ} (v u : CoreView) (is 
         subst L is (left_later v kept a r y within frame (Some k) v.work),
         subst B is (ap (λ (o : Option ByteRange). Held r o) f.gap),
       )
+
+  pub hold_lies : IsWant u.config want → len_of (view_at u.cells r).metadata.region ≡ want.len → cells.LiesInRange want.sub x.metadata
+  hold_lies w l =
+      let Q : CoreView → Type 0 = λ q. len_of (view_at q.cells r).metadata.region ≡ want.len in
+      let n : len_of x.metadata.region ≡ want.len = sym (ap (λ (c : CellView). len_of c.metadata.region) (read_is v.cells r x (new_cell no_frame 0) read within)) ∙ subst Q (sym is) l in
+      let P : CoreView → Type 0 = λ q. IsWant q.config want in
+      let k = subst P (sym is) w in
+      (k.sub.0, omega (arith, n, k.sub.1), rw range_t k.sub.2)
 
   pub hold_entry : len_of (view_at u.cells r).metadata.region ≡ want.len → (g : Option ByteRange)
       → IfSome g (λ q. (q.start < q.end) × (want.sub.start / x.metadata.range * x.metadata.range ≤ q.start) × (q.end ≤ want.sub.start / x.metadata.range * x.metadata.range + x.metadata.range) × (q.end ≤ len_of x.metadata.region))

@@ -1,10 +1,9 @@
 -- Where the regions lie, and that nobody holds the one that an entry for another key takes.
 use Rattle.std.proofs.Common.{arith, ◌≡◌, ◌<◌, ℕ, Bool, true, false, List, [], ◌∷◌, sym, subst, ◌∙◌, inl, inr, refl, length, Option, Some, None}
-use Rattle.std.specs.Prelude.{◌==◌, not, slice_get, option_and_then}
-use Rattle.std.specs.List.{position_from}
+use Rattle.std.specs.Prelude.{◌==◌, not}
 use Rattle.std.proofs.lemmas.Bool.{cases_Bool, cases_lt, false≢true}
 use Rattle.freq_lists.specs.Lists.{is_in, head, times_in}
-use Rattle.cache_policy.specs.Policy.{PolicyView, find, is_tag, tag_at}
+use Rattle.cache_policy.specs.Policy.{PolicyView, tag_at}
 use Rattle.cache_policy.specs.Ageing.{candidates}
 use Rattle.cache_policy.specs.Kept as policy
 use Rattle.cache_door.specs.declared.hold.Hold.{Hold}

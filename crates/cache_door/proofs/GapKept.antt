@@ -1,5 +1,5 @@
 -- Another actor's step leaves a hold as it is, and the bytes of its gap pending.
-use Rattle.std.proofs.Common.{arith, ◌≡◌, ◌<◌, ◌≤◌, ℕ, Bool, List, sym, ◌∙◌, ap, inl, inr, refl, get_or, Option, Some, None}
+use Rattle.std.proofs.Common.{arith, ◌≡◌, ℕ, Bool, List, sym, ◌∙◌, ap, inl, inr, refl, get_or, Option, Some, None}
 use Rattle.std.specs.Prelude.{◌==◌}
 use Rattle.std.proofs.lemmas.Bool.{cases_Bool}
 use Rattle.std.proofs.lemmas.List.{get_or-set_other}

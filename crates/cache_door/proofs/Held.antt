@@ -1,5 +1,5 @@
 -- The calls of an actor that holds a region, on a core: what each leaves is kept, and is the machine's.
-use Rattle.std.proofs.Common.{arith, ◌≡◌, ◌<◌, ◌≤◌, ℕ, Bool, List, [], sym, subst, ◌∙◌, ap, refl, length, set, get_or, Option, Some, None}
+use Rattle.std.proofs.Common.{arith, ◌≡◌, ◌<◌, ◌≤◌, ℕ, Bool, List, sym, subst, ◌∙◌, ap, refl, length, set, get_or, Option, Some, None}
 use Rattle.std.specs.Prelude.{IsSome}
 use Rattle.std.proofs.lemmas.List.{length-set, get_or_default}
 use Rattle.sparse_tracker.specs.ByteStates.{gap_of, ticket_of}

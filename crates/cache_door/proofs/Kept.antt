@@ -1,5 +1,5 @@
 -- What each call leaves of a core is kept.
-use Rattle.std.proofs.Common.{arith, ◌≡◌, ◌<◌, ℕ, Bool, true, List, [], ◌++◌, refl, sym, subst, ◌∙◌, ap, inl, inr, length, set, Option, None}
+use Rattle.std.proofs.Common.{arith, ◌≡◌, ◌<◌, ℕ, Bool, true, List, ◌++◌, refl, sym, subst, ◌∙◌, ap, inl, inr, length, set, Option, None}
 use Rattle.std.specs.Prelude.{IsTrue, slice_set, if◌then◌else◌}
 use Rattle.std.proofs.lemmas.Bool.{cases_eq, cases_Bool, false≢true}
 use Rattle.std.proofs.lemmas.List.{get_or-set_same, get_or-set_other, length-set}

@@ -1,6 +1,6 @@
 -- Calls that read a cell's frame: the state stays, and the frame's answer is the cell's.
-use Rattle.std.proofs.Common.{arith, ◌≡◌, ◌<◌, ◌≤◌, ◌+◌, ◌-◌, ◌/◌, min, ℕ, Bool, List, [], sym, subst, ◌∙◌, ap, inl, inr, refl, length, set, get_or, Option, Some}
-use Rattle.std.specs.Prelude.{◌==◌, ◌↔◌, ◌⊎◌, IsTrue, IfSome}
+use Rattle.std.proofs.Common.{arith, ◌≡◌, ◌<◌, ◌≤◌, ◌+◌, ◌-◌, ◌/◌, min, ℕ, Bool, true, List, sym, subst, ◌∙◌, ap, inl, inr, refl, length, set, get_or, Option, Some}
+use Rattle.std.specs.Prelude.{◌==◌, ◌↔◌, IsTrue, IfSome}
 use Rattle.std.specs.List.{list_all, list_any}
 use Rattle.std.proofs.lemmas.Bool.{cases_Bool, false≢true}
 use Rattle.std.proofs.lemmas.List.Folds.{list_all_at}

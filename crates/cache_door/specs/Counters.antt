@@ -1,13 +1,13 @@
 -- The policy's counters do not fall.
-use Rattle.std.proofs.Common.{arith, ◌≡◌, ◌<◌, ◌≤◌, ◌+◌, ◌-◌, ◌^◌, ℕ, List, [], ◌∷◌, Option, Some, None, Bool, true, false, inl, inr, refl, min, length}
+use Rattle.std.proofs.Common.{arith, ◌<◌, ◌≤◌, ◌+◌, ◌^◌, ℕ, List, [], ◌∷◌, Option, Some, None, inl, inr, min, length}
 use Rattle.std.specs.Prelude.{◌==◌, ◌&&◌, nat_lt}
 use Rattle.std.proofs.lemmas.Bool.{cases_Bool}
 use Rattle.std.proofs.Math.Nat.{le_refl, le_trans}
 use Rattle.freq_lists.specs.Lists.{head, list_of}
-use Rattle.cache_policy.specs.Policy.{PolicyView, rise, unmap, leave, settle, settle_all, leave_all, clear, regions_from, is_of}
+use Rattle.cache_policy.specs.Policy.{PolicyView, rise, leave, settle, settle_all, leave_all, clear, regions_from, is_of}
 use Rattle.cache_policy.specs.Ageing.{touch, touch_at, map_front, decay, waited, candidates}
 use Rattle.cache_door.specs.declared.hold.Hold.{Hold}
-use Rattle.cache_door.specs.Machine.{unheld_by, settled_by, evicted, evicted_by, room_by}
+use Rattle.cache_door.specs.Machine.{unheld_by, settled_by, evicted, room_by}
 
 -- a counter that stops at the greatest u64 did not fall
 abbrev pub Risen : ℕ → ℕ → Type 0

@@ -1,8 +1,7 @@
 -- What no call changes, over several calls.
 use Rattle.std.specs.Prelude.{◌≡◌, ℕ, Some, refl}
-use Rattle.std.proofs.Common.{◌∙◌, sym, subst}
+use Rattle.std.proofs.Common.{◌∙◌, subst}
 use Rattle.std.proofs.Math.Nat.{le_refl, le_trans}
-use Rattle.cache_policy.specs.Policy.{PolicyView}
 use Rattle.cache_door.specs.Counters.{CountersRisen, counters_same, counters_on}
 use Rattle.cache_door.specs.Machine.{State, is_gone}
 use Rattle.cache_door.specs.Doors.{Grown, DoorLater}

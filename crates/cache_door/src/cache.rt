@@ -56,7 +56,7 @@ impl<A: Archive, F: Frame> Model for Core<A, F> {
 
     ghost invariant = { λ c.
         IsKept A.tells (content A.blobs)
-            (core_view c.config c.policy c.cells.items c.holds.items c.gone.items c.work) };
+        (core_view c.config c.policy c.cells.items c.holds.items c.gone.items c.work) };
 }
 
 impl<A: Archive + Drop, F: Frame + Drop> Core<A, F> {

@@ -89,6 +89,7 @@ impl<'a, A: Archive + Drop, F: Frame + Drop> CacheDoor<A> for CoreDoor<'a, A, F>
 
     fn unmount(&mut self, mount: u32, manifest: u32) {
         self.core.unmount(mount, manifest);
+        self.core.lesson();
     }
 
     fn lesson(&self) {

@@ -18,8 +18,6 @@ pub use claims::{claim, look};
 pub use core_door::{CoreDoor, core_crosses};
 pub use door::CacheDoor;
 pub use hold::Hold;
-pub use laws::{
-    claims_absent, gap_kept, never_waits, new_claims_absent, one_owner, present_kept,
-};
+pub use laws::{claims_absent, gap_kept, never_waits, new_claims_absent, one_owner, present_kept};
 pub use region_cell::Taken;
 pub use work::Work;

@@ -8,3 +8,5 @@ pub mod Texts
 pub mod Clocks
 pub mod MemSinks
 pub mod MemSources
+pub mod MemTexts
+pub mod MemClocks

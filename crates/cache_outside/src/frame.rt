@@ -32,7 +32,8 @@ pub trait Frame {
     /// refusal `out` may hold anything.
     fn get(&mut self, at: u32, out: &mut [u8]) -> Result<(), FrameFault>
         requires { at + length out.old ≤ (view self.old).size }
-        ensures got { IsTrue (view self.old).tells → OnOk result (out.new ≡ bytes_at at (length out.old) (view self.old).bytes) }
+        ensures got { IsTrue (view self.old).tells
+            → OnOk result (out.new ≡ bytes_at at (length out.old) (view self.old).bytes) }
         ensures held { (view self.new).bytes ≡ (view self.old).bytes }
         ensures frame { FrameAfter (view self.old) (view self.new) result };
 

@@ -16,5 +16,6 @@ pub trait Sink {
     /// count never falls, and stands still at the last value of its type.
     fn write(&mut self, piece: &[u8]) -> Result<usize, OutError>
         ensures count { IfOk result (λ n. IsCountOf (length piece.now) n) }
-        ensures sink { SinkAfter (view self.old) (view self.new) (written_after (view self.old).written piece.now result) result };
+        ensures sink { SinkAfter (view self.old) (view self.new)
+            (written_after (view self.old).written piece.now result) result };
 }

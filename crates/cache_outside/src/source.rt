@@ -1,5 +1,5 @@
 // An archive by its name, and a source of its blobs.
-ghost use Rattle.std.specs.Prelude.{◌≡◌, ◌<◌, ◌≤◌, ◌^◌, Bool, IsTrue, IfOk, IfSome, length, take, drop, true};
+ghost use Rattle.std.specs.Prelude.{◌≡◌, ◌<◌, ◌≤◌, ◌^◌, Bool, IsTrue, true, IfOk, IfSome, length, take, drop};
 ghost use Rattle.cache_outside.specs.Listing.{Listing, names_differ, manifests, place_of, manifest_number};
 ghost use Rattle.cache_outside.specs.Listing.{blob_bytes, blob_size, IsWithin};
 ghost use Rattle.cache_outside.specs.Sources.{SourceView, SourceAfter, reads_after, IsCountOf};
@@ -53,6 +53,8 @@ pub trait BlobSource<A: Archive> {
     fn read(&mut self, blob: u32, at: u64, out: &mut [u8]) -> Result<usize, OutError>
         requires { IsTrue A.tells → IsWithin A.blobs blob at (length out.old) }
         ensures count { IfOk result (λ n. IsCountOf (length out.old) n) }
-        ensures bytes { IsTrue A.tells → IfOk result (λ n. take n out.new ≡ take n (drop at (blob_bytes A.blobs blob))) }
-        ensures source { SourceAfter (view self.old) (view self.new) (reads_after (view self.old).reads blob at result) result };
+        ensures bytes { IsTrue A.tells
+            → IfOk result (λ n. take n out.new ≡ take n (drop at (blob_bytes A.blobs blob))) }
+        ensures source { SourceAfter (view self.old) (view self.new)
+            (reads_after (view self.old).reads blob at result) result };
 }

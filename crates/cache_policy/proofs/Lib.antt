@@ -8,3 +8,4 @@ pub mod Candidates
 pub mod Clears
 pub mod Mapped
 pub mod Leaves
+pub mod Keyed

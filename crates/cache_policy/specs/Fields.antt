@@ -3,6 +3,7 @@ use Rattle.std.specs.Prelude.{◌≡◌, ◌≤◌, length, vec_capacity}
 use Rattle.cache_policy.specs.declared.policy.Policy.TheInside.{Inside}
 use Rattle.cache_policy.specs.Policy.{PolicyView}
 use Rattle.cache_policy.specs.Kept.{IsGood}
+use Rattle.cache_policy.specs.Keyed.{IsIndex}
 
 abbrev pub view_of : Inside → PolicyView
 view_of p = record {
@@ -24,3 +25,4 @@ pub record IsKept (p : Inside) : Type 0 where
   pub count : length p.lists.lists ≡ p.max_freq
   pub free : length p.tags.items ≤ vec_capacity p.free
   pub leaving : length p.tags.items ≤ vec_capacity p.leaving
+  pub keys : IsIndex p.keys p.tags.items

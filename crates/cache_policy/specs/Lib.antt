@@ -4,3 +4,4 @@ pub mod Kept
 pub mod Steps
 pub mod Fields
 pub mod Laws
+pub mod Keyed

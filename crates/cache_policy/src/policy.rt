@@ -5,11 +5,12 @@ ghost use Rattle.cache_policy.specs.Policy.{PolicyView, new_policy, find, tag_at
 ghost use Rattle.cache_policy.specs.Ageing.{map_front, touch, decay, candidates, next_candidate};
 ghost use Rattle.cache_policy.specs.Kept.{IsGood};
 
-use crate::index::{is_of, mapped_len, region_with};
+use crate::index::{forget_key, give_key, is_of, mapped_len};
 use crate::lower::lower_all;
 use crate::order::{behind, first_from};
 use crate::tally::Tally4;
 use freq_lists::FreqLists;
+use key_table::KeyTable;
 use region_ranges::{Config, RegionKey};
 use std::alloc::{AllocError, Global};
 use std::marker::Model;
@@ -24,6 +25,8 @@ pub struct Policy {
     max_freq: u32,
     // by region: its packed key where it is mapped
     tags: Vec<Option<u64>>,
+    // by packed key: the region that is mapped to it
+    keys: KeyTable,
     // by region: the time of its last access
     last_accesses: Vec<u64>,
     leaving: Vec<u32>,
@@ -59,6 +62,7 @@ impl Policy {
             lists: FreqLists::new(alloc, config.regions, config.max_freq)?,
             max_freq: config.max_freq,
             tags: vec![in alloc; None; config.regions as usize]?,
+            keys: KeyTable::new(alloc, config.regions)?,
             last_accesses: vec![in alloc; 0; config.regions as usize]?,
             leaving: Vec::with_capacity(alloc, config.regions as usize)?,
             evictions: 0,
@@ -75,7 +79,7 @@ impl Policy {
         ensures some { IfSome result (λ r. tag_at self.now r ≡ Some (tag_of key.now)) }
         ensures none { IfNone result ((r : ℕ) → tag_at self.now r ≢ Some (tag_of key.now)) }
     {
-        region_with(&self.tags, key.pack())
+        self.keys.find(key.pack())
     }
 
     /// An access to a mapped region at a time in milliseconds. Where its last access is at least the least interval ago, and
@@ -133,7 +137,7 @@ impl Policy {
     {
         self.free.remove(0);
         self.lists.push_back(0, region);
-        self.tags[region as usize] = Some(key.pack());
+        give_key(&mut self.tags, &mut self.keys, region, key.pack());
         self.last_accesses[region as usize] = now;
     }
 
@@ -145,7 +149,7 @@ impl Policy {
         ensures count { length self.new.tags ≡ length self.old.tags }
     {
         self.lists.unlink(region);
-        self.tags[region as usize] = None;
+        forget_key(&mut self.tags, &mut self.keys, region);
         let Ok(()) = self.free.push(region) else {
             unreachable!()
         };
@@ -160,7 +164,7 @@ impl Policy {
         ensures count { length self.new.tags ≡ length self.old.tags }
     {
         self.lists.unlink(region);
-        self.tags[region as usize] = None;
+        forget_key(&mut self.tags, &mut self.keys, region);
         let Ok(()) = self.leaving.push(region) else {
             unreachable!()
         };

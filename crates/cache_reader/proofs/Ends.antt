@@ -1,5 +1,5 @@
 -- How a part ends.
-use Rattle.std.proofs.Common.{zero-add, arith, ◌≡◌, ◌<◌, ◌≤◌, ◌+◌, ◌-◌, ◌*◌, ℕ, List, [], ◌++◌, length, take, drop, Bool, true, false, Option, refl, ap, sym, subst, ◌∙◌, min}
+use Rattle.std.proofs.Common.{zero-add, arith, ◌≡◌, ◌<◌, ◌≤◌, ◌+◌, ◌-◌, ◌*◌, ℕ, List, [], ◌++◌, length, take, drop, Bool, true, false, refl, ap, sym, subst, ◌∙◌, min}
 use Rattle.std.specs.Prelude.{IsTrue}
 use Rattle.std.proofs.Math.Nat.{mul-le-mul_left}
 use Rattle.std.proofs.lemmas.List.{length-append}
@@ -11,10 +11,8 @@ use Rattle.cache_reader.specs.Reports.{joined, no_bytes, copied_bytes, fetched_b
 use Rattle.cache_reader.specs.Bounds.{Bounded, Worked}
 use Rattle.cache_reader.specs.Parts.{ReadSetting}
 use Rattle.cache_reader.specs.Going.{Moment, Goes}
-use Rattle.cache_door.specs.Machine.{State}
-use Rattle.std.proofs.Math.Nat.{le_refl}
 use Rattle.cache_reader.specs.Filling.{Partly, Whole, PartGoes, given}
-use Rattle.cache_reader.proofs.Joins.{worked_none, goes_more, goes_none, counted_more, counted_none, took_none, took_both, bounded_more, rose_then}
+use Rattle.cache_reader.proofs.Joins.{goes_more, goes_none, counted_more, counted_none, took_none, took_both, bounded_more, rose_then}
 use Rattle.std.proofs.lemmas.List.{drop-drop, take-take, drop-take}
 use Rattle.blob_parts.specs.Content.{slice_of}
 use Rattle.cache_door.specs.Doors.{Works, turned_away_once}

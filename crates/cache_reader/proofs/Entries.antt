@@ -19,7 +19,6 @@ use Rattle.cache_door.specs.Good.{Good}
 use Rattle.cache_door.specs.Doors.{DoorView, DoorLater, Answers, Becomes, entry, entry_answer, nothing, Agrees, IsWant, HasLength, range_start, range_end}
 use Rattle.cache_door.specs.Takes.{parts, want_of}
 use Rattle.directory_input.specs.Causes.{IsCaused}
-use Rattle.directory_input.specs.Reads.{Read}
 use Rattle.cache_reader.specs.declared.part.Last.{Last}
 use Rattle.cache_reader.specs.declared.report.Report.{Report}
 use Rattle.cache_reader.specs.Reports.{copied_bytes, direct_bytes, Counted}

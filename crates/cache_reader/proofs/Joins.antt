@@ -1,5 +1,5 @@
 -- Steps of reads, one behind another.
-use Rattle.std.proofs.Common.{arith, ◌≡◌, ◌<◌, ◌≤◌, ◌+◌, ℕ, refl, min}
+use Rattle.std.proofs.Common.{arith, ◌≡◌, ◌<◌, ◌+◌, ℕ, refl, min}
 use Rattle.std.proofs.Math.Nat.{le_refl}
 use Rattle.cache_door.specs.declared.work.Work.{Work}
 use Rattle.cache_outside.specs.Sources.{SourceView}

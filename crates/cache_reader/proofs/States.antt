@@ -10,7 +10,7 @@ use Rattle.cache_outside.specs.Causes.{Rose}
 use Rattle.region_cell.specs.declared.taken.Taken.{Taken}
 use Rattle.region_cell.specs.declared.taken.Taken.TheVariants as taken
 use Rattle.cache_door.specs.declared.hold.Hold.{Hold}
-use Rattle.cache_door.specs.Machine.{State, hold_at, store, fail, leave, take_bytes}
+use Rattle.cache_door.specs.Machine.{State, hold_at, fail, leave, take_bytes}
 use Rattle.cache_door.specs.Good.{Good}
 use Rattle.cache_door.specs.Doors.{DoorView, HoldView, hold_view, nothing, SameState, Becomes, CopyOrFault, AnswersCopy, FrameFails, taking, storing, failing, leaving}
 use Rattle.cache_reader.specs.Reports.{Grew}

@@ -48,7 +48,7 @@ entries_counted c a ps k l q r s x y marks count h told enough calm still t is o
 -- one read, which is all parts of it
 pub read_through : (c : ReadSetting) (a file at size given : ℕ) (k l : Bool) (q r s : Report) (x y : Moment) → file < length c.table.files → at + size ≤ file_length c.table file → given ≤ size
     → PartGoes c given k no_bytes r x y → Counted q s r → (let read : Read = record { file = file; at = at; size = size } in
-        Exactly c (read_outcome c a read) k no_bytes r x y → ByEntries c a (parts_of c.config.range read) k no_bytes r x y → ReadsThrough c a (one_read file at size) q s l (l || k) x y)
+    Exactly c (read_outcome c a read) k no_bytes r x y → ByEntries c a (parts_of c.config.range read) k no_bytes r x y → ReadsThrough c a (one_read file at size) q s l (l || k) x y)
 read_through c a file at size given k l q r s x y number inside most h count exact entries =
     let read : Read = record { file = file; at = at; size = size } in
     let marks = unraised l k in record {
@@ -70,7 +70,7 @@ plain false more e = e
 -- the same, where it wanted no memory
 pub read_calmly : (c : ReadSetting) (a file at size given : ℕ) (k l : Bool) (q r s : Report) (x y : Moment) → file < length c.table.files → at + size ≤ file_length c.table file → given ≤ size
     → PartGoes c given k no_bytes r x y → Counted q s r → (let read : Read = record { file = file; at = at; size = size } in
-        Exactly c (read_outcome c a read) k no_bytes r x y → ByEntries c a (parts_of c.config.range read) k no_bytes r x y → k ≡ false → ReadsThrough c a (one_read file at size) q s l l x y)
+    Exactly c (read_outcome c a read) k no_bytes r x y → ByEntries c a (parts_of c.config.range read) k no_bytes r x y → k ≡ false → ReadsThrough c a (one_read file at size) q s l l x y)
 read_calmly c a file at size given k l q r s x y number inside most h count exact entries enough =
     subst (λ b. ReadsThrough c a (one_read file at size) q s l b x y) (plain l k enough) (read_through c a file at size given k l q r s x y number inside most h count exact entries)
 

@@ -1,6 +1,7 @@
 -- What reads make of a reader.
-use Rattle.std.specs.Prelude.{◌≡◌, ◌≤◌, ◌+◌, ◌&&◌, ℕ, sum_by, Bool, false, IsTrue, IfOk, List, length, take, drop, Result}
+use Rattle.std.specs.Prelude.{◌≡◌, ◌≤◌, ◌+◌, ◌&&◌, ℕ, sum_by, Bool, false, IsTrue, IfOk, List, length, take, drop, Option, Result}
 use Rattle.directory_input.specs.Reads.{Read}
+use Rattle.directory_input.specs.Causes.{IsCaused}
 use Rattle.directory_input.specs.Files.{FilesView}
 use Rattle.directory_input.specs.declared.files.BytesError.{BytesError}
 use Rattle.blob_parts.specs.Content.{content, slice_of}
@@ -32,6 +33,10 @@ files_seen c x out_of_memory = record {
   gone = x.door.seen_gone c.mount;
   out_of_memory = out_of_memory;
 }
+
+-- what a refusal of a read (or none) says of a source and a door before and now
+abbrev pub IsCausedAt : ReadSetting → Moment → Moment → Option BytesError → Type 0
+IsCausedAt c x y refusal = IsCaused (files_seen c x false) (files_seen c y false) refusal
 
 -- What a list of reads by actor `a` makes of a reader. `total` is the sum of its counts, and `out_of_memory` its mark.
 pub record ReadsThrough (c : ReadSetting) (a : ℕ) (reads : List Read) (total_before total_now : Report) (out_of_memory_before out_of_memory_now : Bool) (x y : Moment) : Type 0 where

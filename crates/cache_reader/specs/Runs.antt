@@ -8,7 +8,6 @@ use Rattle.region_ranges.specs.declared.ranges.ByteRange.{ByteRange}
 use Rattle.region_ranges.specs.Keys.{tag_of}
 use Rattle.cache_policy.specs.Policy.{PolicyView, find}
 use Rattle.freq_lists.specs.Lists.{head}
-use Rattle.cache_outside.specs.Causes.{Rose}
 use Rattle.directory_input.specs.Reads.{Read}
 use Rattle.region_cell.specs.Cells.{len_of}
 use Rattle.blob_parts.specs.Content.{slice_of}
@@ -20,10 +19,10 @@ use Rattle.cache_door.specs.declared.hold.Hold.{Hold}
 use Rattle.cache_door.specs.Machine.{State, cell_at, hold_at, is_gone, hold, place, enter_at, enter, make_room, store, leave}
 use Rattle.cache_door.specs.Takes.{parts, want_of, taken_by, after, visit, run_over, spread_over}
 use Rattle.cache_reader.specs.declared.report.Report.{Report}
-use Rattle.cache_reader.specs.Parts.{ReadSetting, read_setting, bytes_of, places_of}
+use Rattle.cache_reader.specs.Parts.{ReadSetting, bytes_of, places_of}
 use Rattle.cache_reader.specs.Going.{Moment, Goes}
-use Rattle.cache_reader.specs.Alone.{Outcome, part_outcome, outcome_over, read_outcome, reads_outcome, unchanged, then_outcome, whole_of, fetched_by, direct_by, HasOutcome, InCalm, Calmly, Exactly, FilePart, in_file, parts_of, reads_parts, entry_for, IsGlanced, AreEntered, HasEntries, ByEntries}
-use Rattle.cache_reader.specs.Through.{unmarked, took_none, took_both, grew_none, grew_more, rose_first, rose_then}
+use Rattle.cache_reader.specs.Alone.{Outcome, part_outcome, outcome_over, read_outcome, reads_outcome, unchanged, then_outcome, whole_of, fetched_by, direct_by, HasOutcome, Calmly, Exactly, FilePart, in_file, parts_of, entry_for, AreEntered, ByEntries}
+use Rattle.cache_reader.specs.Through.{took_none, took_both, grew_none, grew_more, rose_first, rose_then}
 
 -- ---- one behind another
 
@@ -355,6 +354,6 @@ exactly_entries c a r out_of_memory p q x y own h some told enough calm still s 
     let ps = parts c.config.range (whole_of r) in
     let go = part_outcome c a r.file in
     let all : outcome_over (entry_for c a) e.entered s ≡ read_outcome c a r s =
-        idle_over c a e.entered (parts_of c.config.range r) s delta e.are ∙ over_map c a r.file ps s
-        ∙ ap (λ (k : Config). outcome_over go (parts k.range (whole_of r)) s) (sym same) ∙ sym (read_is_parts c a r s) in
+    idle_over c a e.entered (parts_of c.config.range r) s delta e.are ∙ over_map c a r.file ps s
+    ∙ ap (λ (k : Config). outcome_over go (parts k.range (whole_of r)) s) (sym same) ∙ sym (read_is_parts c a r s) in
     let P : Outcome → Type 0 = λ u. HasOutcome u p q x y in subst P all e.outcome

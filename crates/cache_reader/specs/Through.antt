@@ -1,26 +1,19 @@
 -- Counts and places, added up.
-use Rattle.std.proofs.Common.{arith, ◌≡◌, ◌<◌, ◌≤◌, ◌+◌, ℕ, List, [], ◌∷◌, ◌++◌, length, Bool, true, false, Option, Some, None, refl, ap, sym, subst, ◌∙◌, inl, inr}
+use Rattle.std.proofs.Common.{arith, ◌≡◌, ◌<◌, ◌≤◌, ◌+◌, ℕ, List, [], ◌++◌, length, Bool, true, false, Option, Some, None, refl, ap, sym, ◌∙◌, inl, inr}
 use Rattle.std.specs.Prelude.{IsTrue}
 use Rattle.std.proofs.lemmas.Bool.{cases_lt}
 use Rattle.std.proofs.lemmas.Grind.{flat_map-append}
 use Rattle.std.proofs.lemmas.List.{append-nil, append_assoc, length-append}
-use Rattle.std.proofs.lemmas.List.Sums.{sum_by-append}
 use Rattle.std.proofs.Math.Nat.{le_refl, le_trans}
-use Rattle.directory_input.specs.Reads.{Read}
 use Rattle.cache_outside.specs.Causes.{Rose}
 use Rattle.blob_parts.specs.Content.{spread, spread_one}
 use Rattle.blob_parts.specs.Takes.{Took}
-use Rattle.blob_parts.specs.Tables.{TableParts}
-use Rattle.blob_parts.specs.Going.{AreInTable}
 use Rattle.cache_door.specs.declared.work.Work.{Work}
-use Rattle.cache_door.specs.Doors.{Grown}
 use Rattle.cache_reader.specs.declared.report.Report.{Report}
-use Rattle.cache_reader.specs.declared.part.Setting.{Setting}
 use Rattle.cache_reader.specs.Reports.{joined, no_bytes, Grew, Counted}
 use Rattle.cache_reader.specs.Bounds.{Bounded, Worked}
-use Rattle.cache_reader.specs.Parts.{ReadSetting, read_setting}
+use Rattle.cache_reader.specs.Parts.{ReadSetting}
 use Rattle.cache_reader.specs.Going.{Moment, Goes, Takes}
-use Rattle.cache_outside.specs.Listing.{Listing}
 
 pub grew_none : (n : ℕ) → Grew n n 0
 grew_none n = record { later = le_refl n; most = omega arith; whole = λ h. omega arith }
@@ -115,4 +108,3 @@ takes_more c k l m n x y z marks first second h j = record {
 pub unmarked : (first then : Bool) → (IsTrue first → IsTrue then) → then ≡ false → first ≡ false
 unmarked false then h e = refl
 unmarked true then h e = let raised = h refl in absurd (cc)
-

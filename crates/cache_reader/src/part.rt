@@ -1,14 +1,14 @@
 // One part of a file, read through a door: it lies in one region and in one of the region's ranges.
 ghost use Rattle.std.specs.Option.{ForSome};
-ghost use Rattle.std.specs.Prelude.{◌≡◌, ◌<◌, ◌≤◌, ◌-◌, ◌/◌, Some, false, [], ◌∷◌, IsTrue, OnOk, length};
+ghost use Rattle.std.specs.Prelude.{◌≡◌, ◌<◌, ◌≤◌, ◌-◌, ◌/◌, Some, [], ◌∷◌, IsTrue, OnOk, length};
 ghost use Rattle.region_ranges.specs.Keys.{tag_of, IsConfig};
 ghost use Rattle.region_cell.specs.Cells.{region_bytes};
 ghost use Rattle.blob_parts.specs.Content.{content, slice_of};
 ghost use Rattle.blob_parts.specs.Tables.{file_length};
 ghost use Rattle.cache_door.specs.Doors.{IsWant, HasLength, AsWanted, nothing};
 ghost use Rattle.cache_door.specs.Machine.{State};
-ghost use Rattle.cache_reader.specs.Reader.{files_seen};
-ghost use Rattle.directory_input.specs.Causes.{IsCaused, refusal};
+ghost use Rattle.cache_reader.specs.Reader.{IsCausedAt};
+ghost use Rattle.directory_input.specs.Causes.{refusal};
 ghost use Rattle.cache_reader.specs.Reports.{no_bytes};
 ghost use Rattle.cache_reader.specs.Bounds.{Worked};
 ghost use Rattle.cache_reader.specs.Parts.{read_setting};
@@ -48,7 +48,8 @@ pub struct Setting {
 fn want_at<A: Archive>(table: &PartTable<A>, config: &Config, file: u32, part: ByteRange) -> Want
     requires config { IsConfig config.now }
     requires file { file < length table.now.files }
-    requires part { (part.start < part.end) × (part.end ≤ file_length table.now file) × (part.start / config.now.range ≡ (part.end - 1) / config.now.range) }
+    requires part { (part.start < part.end) × (part.end ≤ file_length table.now file)
+        × (part.start / config.now.range ≡ (part.end - 1) / config.now.range) }
     ensures value { result ≡ want_of config.now.region table.now.number file (file_length table.now file) part }
     ensures wanted { IsWant config.now result }
     ensures whole { IsTrue A.tells → HasLength (content A.blobs) config.now result }
@@ -119,7 +120,8 @@ fn enter_part<A: Archive, D: CacheDoor<A>, S: BlobSource<A>>(
     requires limits { IsConfig setting.now.config }
     requires below { setting.now.mount < 4096 }
     requires file { file < length table.now.files }
-    requires part { (part.start < part.end) × (part.end ≤ file_length table.now file) × (part.start / setting.now.config.range ≡ (part.end - 1) / setting.now.config.range) }
+    requires part { (part.start < part.end) × (part.end ≤ file_length table.now file)
+        × (part.start / setting.now.config.range ≡ (part.end - 1) / setting.now.config.range) }
     requires len { length out.old ≡ part.end - part.start }
     requires want { want.now ≡ want_of setting.now.config.region table.now.number file (file_length table.now file) part }
     requires wanted { IsWant setting.now.config want.now }
@@ -127,11 +129,18 @@ fn enter_part<A: Archive, D: CacheDoor<A>, S: BlobSource<A>>(
     ensures stays { D.stays door.old door.new }
     ensures hold { (D.view door.new).hold ≡ nothing }
     ensures reach { ForSome last.new (λ l. l.region < setting.now.config.regions) }
-    ensures cause { IsCaused (files_seen (read_setting A.tells A.blobs table.now setting.now) (moment (S.view source.old) (D.view door.old)) false) (files_seen (read_setting A.tells A.blobs table.now setting.now) (moment (S.view source.new) (D.view door.new)) false) (refusal result) }
-    ensures bytes { IsTrue A.tells → IsTrue (D.view door.old).frames_tell → OnOk result (out.new ≡ slice_of (content A.blobs table.now.number file) part.start (length out.old)) }
-    ensures part { PartGoes (read_setting A.tells A.blobs table.now setting.now) (given (is_answered result) (part.end - part.start)) (is_memory result) report.old report.new (moment (S.view source.old) (D.view door.old)) (moment (S.view source.new) (D.view door.new)) }
+    ensures cause { IsCausedAt (read_setting A.tells A.blobs table.now setting.now)
+        (moment (S.view source.old) (D.view door.old)) (moment (S.view source.new) (D.view door.new)) (refusal result) }
+    ensures bytes { IsTrue A.tells → IsTrue (D.view door.old).frames_tell
+        → OnOk result (out.new ≡ slice_of (content A.blobs table.now.number file) part.start (length out.old)) }
+    ensures part { PartGoes (read_setting A.tells A.blobs table.now setting.now)
+        (given (is_answered result) (part.end - part.start)) (is_memory result) report.old report.new
+        (moment (S.view source.old) (D.view door.old)) (moment (S.view source.new) (D.view door.new)) }
     ensures fits { LastFits setting.now.mount setting.now.time last.new (D.view door.new).state }
-    ensures outcome { Calmly (read_setting A.tells A.blobs table.now setting.now) (part_outcome (read_setting A.tells A.blobs table.now setting.now) (D.view door.old).actor file part) (is_memory result) report.old report.new (moment (S.view source.old) (D.view door.old)) (moment (S.view source.new) (D.view door.new)) }
+    ensures outcome { Calmly (read_setting A.tells A.blobs table.now setting.now)
+        (part_outcome (read_setting A.tells A.blobs table.now setting.now) (D.view door.old).actor file part)
+        (is_memory result) report.old report.new (moment (S.view source.old) (D.view door.old))
+        (moment (S.view source.new) (D.view door.new)) }
 {
     let _length = table.length(file);
     door.lesson();
@@ -179,18 +188,25 @@ pub(crate) fn read_part<A: Archive, D: CacheDoor<A>, S: BlobSource<A>>(
     requires limits { IsConfig setting.now.config }
     requires below { setting.now.mount < 4096 }
     requires file { file < length table.now.files }
-    requires part { (part.start < part.end) × (part.end ≤ file_length table.now file) × (part.start / setting.now.config.range ≡ (part.end - 1) / setting.now.config.range) }
+    requires part { (part.start < part.end) × (part.end ≤ file_length table.now file)
+        × (part.start / setting.now.config.range ≡ (part.end - 1) / setting.now.config.range) }
     requires len { length out.old ≡ part.end - part.start }
     requires reach { ForSome last.old (λ l. l.region < setting.now.config.regions) }
     requires fits { LastFits setting.now.mount setting.now.time last.old (D.view door.old).state }
     ensures stays { D.stays door.old door.new }
     ensures hold { (D.view door.new).hold ≡ nothing }
     ensures reach { ForSome last.new (λ l. l.region < setting.now.config.regions) }
-    ensures cause { IsCaused (files_seen (read_setting A.tells A.blobs table.now setting.now) (moment (S.view source.old) (D.view door.old)) false) (files_seen (read_setting A.tells A.blobs table.now setting.now) (moment (S.view source.new) (D.view door.new)) false) (refusal result) }
-    ensures bytes { IsTrue A.tells → IsTrue (D.view door.old).frames_tell → OnOk result (out.new ≡ slice_of (content A.blobs table.now.number file) part.start (length out.old)) }
-    ensures part { PartGoes (read_setting A.tells A.blobs table.now setting.now) (given (is_answered result) (part.end - part.start)) (is_memory result) report.old report.new (moment (S.view source.old) (D.view door.old)) (moment (S.view source.new) (D.view door.new)) }
+    ensures cause { IsCausedAt (read_setting A.tells A.blobs table.now setting.now)
+        (moment (S.view source.old) (D.view door.old)) (moment (S.view source.new) (D.view door.new)) (refusal result) }
+    ensures bytes { IsTrue A.tells → IsTrue (D.view door.old).frames_tell
+        → OnOk result (out.new ≡ slice_of (content A.blobs table.now.number file) part.start (length out.old)) }
+    ensures part { PartGoes (read_setting A.tells A.blobs table.now setting.now)
+        (given (is_answered result) (part.end - part.start)) (is_memory result) report.old report.new
+        (moment (S.view source.old) (D.view door.old)) (moment (S.view source.new) (D.view door.new)) }
     ensures fits { LastFits setting.now.mount setting.now.time last.new (D.view door.new).state }
-    ensures entries { ByEntries (read_setting A.tells A.blobs table.now setting.now) (D.view door.old).actor (in_file file part ∷ []) (is_memory result) report.old report.new (moment (S.view source.old) (D.view door.old)) (moment (S.view source.new) (D.view door.new)) }
+    ensures entries { ByEntries (read_setting A.tells A.blobs table.now setting.now) (D.view door.old).actor
+        (in_file file part ∷ []) (is_memory result) report.old report.new
+        (moment (S.view source.old) (D.view door.old)) (moment (S.view source.new) (D.view door.new)) }
 {
     let _length = table.length(file);
     door.lesson();

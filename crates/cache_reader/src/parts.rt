@@ -1,12 +1,12 @@
 // The parts of a read, one after another.
 ghost use Rattle.std.specs.Option.{ForSome};
-ghost use Rattle.std.specs.Prelude.{◌≡◌, ◌<◌, ◌≤◌, ◌+◌, ◌-◌, ◌*◌, ◌/◌, min, false, IsTrue, OnOk, IsOk, length, take, drop};
+ghost use Rattle.std.specs.Prelude.{◌≡◌, ◌<◌, ◌≤◌, ◌+◌, ◌-◌, ◌*◌, ◌/◌, min, IsTrue, OnOk, IsOk, length, take, drop};
 ghost use Rattle.region_ranges.specs.Keys.{IsConfig};
 ghost use Rattle.blob_parts.specs.Content.{content, slice_of};
 ghost use Rattle.blob_parts.specs.Tables.{file_length};
 ghost use Rattle.cache_door.specs.Doors.{nothing};
-ghost use Rattle.cache_reader.specs.Reader.{files_seen};
-ghost use Rattle.directory_input.specs.Causes.{IsCaused, refusal};
+ghost use Rattle.cache_reader.specs.Reader.{IsCausedAt};
+ghost use Rattle.directory_input.specs.Causes.{refusal};
 ghost use Rattle.cache_reader.specs.Reports.{no_bytes};
 ghost use Rattle.cache_reader.specs.Parts.{read_setting};
 ghost use Rattle.cache_reader.specs.Going.{moment, is_memory};
@@ -62,16 +62,28 @@ pub(crate) fn read_parts<A: Archive, D: CacheDoor<A>, S: BlobSource<A>>(
     ensures stays { D.stays door.old door.new }
     ensures hold { (D.view door.new).hold ≡ nothing }
     ensures reach { ForSome last.new (λ l. l.region < setting.now.config.regions) }
-    ensures cause { IsCaused (files_seen (read_setting A.tells A.blobs table.now setting.now) (moment (S.view source.old) (D.view door.old)) false) (files_seen (read_setting A.tells A.blobs table.now setting.now) (moment (S.view source.new) (D.view door.new)) false) (refusal result) }
-    ensures bytes { IsTrue A.tells → IsTrue (D.view door.old).frames_tell → OnOk result (out.new ≡ slice_of (content A.blobs table.now.number file) at (length out.old)) }
-    ensures part { PartGoes (read_setting A.tells A.blobs table.now setting.now) (report.new.hit + report.new.direct) (is_memory result) report.old report.new (moment (S.view source.old) (D.view door.old)) (moment (S.view source.new) (D.view door.new)) }
+    ensures cause { IsCausedAt (read_setting A.tells A.blobs table.now setting.now)
+        (moment (S.view source.old) (D.view door.old)) (moment (S.view source.new) (D.view door.new)) (refusal result) }
+    ensures bytes { IsTrue A.tells → IsTrue (D.view door.old).frames_tell
+        → OnOk result (out.new ≡ slice_of (content A.blobs table.now.number file) at (length out.old)) }
+    ensures part { PartGoes (read_setting A.tells A.blobs table.now setting.now) (report.new.hit + report.new.direct)
+        (is_memory result) report.old report.new (moment (S.view source.old) (D.view door.old))
+        (moment (S.view source.new) (D.view door.new)) }
     ensures fits { LastFits setting.now.mount setting.now.time last.new (D.view door.new).state }
-    ensures exact { Exactly (read_setting A.tells A.blobs table.now setting.now) (read_outcome (read_setting A.tells A.blobs table.now setting.now) (D.view door.old).actor (record { file = file; at = at; size = length out.old })) (is_memory result) report.old report.new (moment (S.view source.old) (D.view door.old)) (moment (S.view source.new) (D.view door.new)) }
-    ensures entries { ByEntries (read_setting A.tells A.blobs table.now setting.now) (D.view door.old).actor (parts_of setting.now.config.range (record { file = file; at = at; size = length out.old })) (is_memory result) report.old report.new (moment (S.view source.old) (D.view door.old)) (moment (S.view source.new) (D.view door.new)) }
+    ensures exact { Exactly (read_setting A.tells A.blobs table.now setting.now)
+        (read_outcome (read_setting A.tells A.blobs table.now setting.now) (D.view door.old).actor
+        (record { file = file; at = at; size = length out.old })) (is_memory result) report.old report.new
+        (moment (S.view source.old) (D.view door.old)) (moment (S.view source.new) (D.view door.new)) }
+    ensures entries { ByEntries (read_setting A.tells A.blobs table.now setting.now) (D.view door.old).actor
+        (parts_of setting.now.config.range (record { file = file; at = at; size = length out.old }))
+        (is_memory result) report.old report.new (moment (S.view source.old) (D.view door.old))
+        (moment (S.view source.new) (D.view door.new)) }
     ensures reached { report.new.hit + report.new.direct ≤ length out.old }
     ensures all { OnOk result (report.new.hit + report.new.direct ≡ length out.old) }
-    ensures filled { IsTrue A.tells → IsTrue (D.view door.old).frames_tell → take (report.new.hit + report.new.direct) out.new ≡ slice_of (content A.blobs table.now.number file) at (report.new.hit + report.new.direct) }
-    ensures untouched { drop (report.new.hit + report.new.direct + setting.now.config.range) out.new ≡ drop (report.new.hit + report.new.direct + setting.now.config.range) out.old }
+    ensures filled { IsTrue A.tells → IsTrue (D.view door.old).frames_tell → take (report.new.hit + report.new.direct)
+        out.new ≡ slice_of (content A.blobs table.now.number file) at (report.new.hit + report.new.direct) }
+    ensures untouched { drop (report.new.hit + report.new.direct + setting.now.config.range) out.new ≡ drop
+        (report.new.hit + report.new.direct + setting.now.config.range) out.old }
     ensures empty { length out.old ≡ 0 → IsOk result × (door.new ≡ door.old) × (source.new ≡ source.old) }
 {
     let _length = table.length(file);

@@ -3,7 +3,7 @@ ghost use Rattle.std.specs.Option.{ForSome};
 ghost use Rattle.std.specs.Prelude.{◌<◌, ◌≤◌, ◌+◌, ◌≡◌, false, None, IsTrue, IsOk, OnOk, length};
 ghost use Rattle.region_ranges.specs.Keys.{IsConfig};
 ghost use Rattle.directory_input.specs.Causes.{HasReadCause, refusal};
-ghost use Rattle.directory_input.specs.Reads.{one_read, slice_of};
+ghost use Rattle.directory_input.specs.Reads.{Read, one_read, slice_of};
 ghost use Rattle.cache_door.specs.Doors.{nothing};
 ghost use Rattle.cache_reader.specs.Parts.{read_setting};
 ghost use Rattle.cache_reader.specs.Going.{moment};
@@ -39,22 +39,26 @@ pub struct Reader<'a, A: Archive, D: CacheDoor<A>, S: BlobSource<A>> {
     ghost limits: { IsConfig setting.config },
     ghost below: { setting.mount < 4096 },
     ghost reach: { ForSome last (λ l. l.region < setting.config.regions) },
-    ghost fits: { LastFits setting.mount setting.time last (D.view door.now).state }
-        by { last_fits_prop setting.mount setting.time last (D.view door.now).state },
+    ghost fits: { LastFits setting.mount setting.time last (D.view door.now).state } by { last_fits_prop setting.mount
+        setting.time last (D.view door.now).state },
 }
 
 /// What clauses see of a reader. It has a meaning alone.
 pub trait Seen {
     ghost use Rattle.cache_reader.specs.Reader.{ReaderView};
 
-    /// What stays the same while the reader lives, its source and door, the sums of its reads, and whether a read of it was
-    /// refused for want of memory.
+    /// What stays the same while the reader lives, its source and door, the sums of its reads, and whether a read of it
+    /// was refused for want of memory.
     ghost seen: { Self → ReaderView };
 }
 
 impl<'a, A: Archive, D: CacheDoor<A>, S: BlobSource<A>> Seen for Reader<'a, A, D, S> {
-    ghost seen = { λ d. record { setting = read_setting A.tells A.blobs d.table.now d.setting;
-        moment = moment (S.view d.source.now) (D.view d.door.now); total = d.total; out_of_memory = d.out_of_memory } };
+    ghost seen = { λ d. record {
+      setting = read_setting A.tells A.blobs d.table.now d.setting;
+      moment = moment (S.view d.source.now) (D.view d.door.now);
+      total = d.total;
+      out_of_memory = d.out_of_memory;
+    } };
 }
 
 impl<'a, A: Archive, D: CacheDoor<A>, S: BlobSource<A>> Reader<'a, A, D, S> {
@@ -127,7 +131,8 @@ impl<'a, A: Archive, D: CacheDoor<A>, S: BlobSource<A>> Reader<'a, A, D, S> {
         ensures cause { let view = ⟦<Reader<'a, A, D, S> as FileBytes>⟧.view in
             HasReadCause (view self.old) (view self.new) (refusal result) }
         ensures report { let seen = ⟦<Reader<'a, A, D, S> as Seen>⟧.seen in
-            Reported (record { file = file; at = at; size = length out.old }) result out.old out.new (seen self.old) (seen self.new) }
+            let read : Read = record { file = file; at = at; size = length out.old } in
+            Reported read result out.old out.new (seen self.old) (seen self.new) }
         ensures empty { let seen = ⟦<Reader<'a, A, D, S> as Seen>⟧.seen in
             length out.old ≡ 0 → IsOk result × ((seen self.new).moment ≡ (seen self.old).moment) }
     {
@@ -157,7 +162,6 @@ impl<'a, A: Archive, D: CacheDoor<A>, S: BlobSource<A>> Reader<'a, A, D, S> {
 
 impl<'a, A: Archive, D: CacheDoor<A>, S: BlobSource<A>> FileBytes for Reader<'a, A, D, S> {
     ghost use Rattle.std.proofs.Common.{refl, ap, ◌∙◌};
-    ghost use Rattle.directory_input.specs.Reads.{Read};
     ghost use Rattle.cache_reader.specs.Reader.{ReadsOn, files_seen};
     ghost use Rattle.cache_reader.specs.Onward.{no_reads, more_of_same, same_setting, files_kept};
 
@@ -169,19 +173,32 @@ impl<'a, A: Archive, D: CacheDoor<A>, S: BlobSource<A>> FileBytes for Reader<'a,
         × D.stays x.door.now y.door.now × ((D.view y.door.now).hold ≡ nothing)
         × ReadsOn rs (⟦<Reader<'a, A, D, S> as Seen>⟧.seen x) (⟦<Reader<'a, A, D, S> as Seen>⟧.seen y) };
 
-    ghost by_none = { λ x. (refl, refl, refl, refl, D.stays_same x.door.now, x.free,
-        no_reads (read_setting A.tells A.blobs x.table.now x.setting) (D.view x.door.now).actor x.total x.out_of_memory
-            (moment (S.view x.source.now) (D.view x.door.now))) };
+    ghost by_none = { λ x. (
+      refl,
+      refl,
+      refl,
+      refl,
+      D.stays_same x.door.now,
+      x.free,
+      no_reads (read_setting A.tells A.blobs x.table.now x.setting) (D.view x.door.now).actor x.total x.out_of_memory
+          (moment (S.view x.source.now) (D.view x.door.now)),
+    ) };
 
-    ghost by_more = { λ rs ss x y z h k. (k.0 ∙ h.0, k.1 ∙ h.1, k.2 ∙ h.2, k.3 ∙ h.3,
-        D.stays_on x.door.now y.door.now z.door.now h.4 k.4, k.5,
-        more_of_same (read_setting A.tells A.blobs x.table.now x.setting)
-            (read_setting A.tells A.blobs y.table.now y.setting) (D.view x.door.now).actor (D.view y.door.now).actor
-            rs ss x.total y.total z.total x.out_of_memory y.out_of_memory z.out_of_memory
-            (moment (S.view x.source.now) (D.view x.door.now)) (moment (S.view y.source.now) (D.view y.door.now))
-            (moment (S.view z.source.now) (D.view z.door.now))
-            (same_setting A.tells A.blobs x.table.now y.table.now x.setting y.setting (ap (λ t. t.now) h.2) h.3)
-            (D.later x.door.now y.door.now h.4).actor h.6 k.6) };
+    ghost by_more = { λ rs ss x y z h k. (
+      k.0 ∙ h.0,
+      k.1 ∙ h.1,
+      k.2 ∙ h.2,
+      k.3 ∙ h.3,
+      D.stays_on x.door.now y.door.now z.door.now h.4 k.4,
+      k.5,
+      more_of_same (read_setting A.tells A.blobs x.table.now x.setting)
+          (read_setting A.tells A.blobs y.table.now y.setting) (D.view x.door.now).actor (D.view y.door.now).actor
+          rs ss x.total y.total z.total x.out_of_memory y.out_of_memory z.out_of_memory
+          (moment (S.view x.source.now) (D.view x.door.now)) (moment (S.view y.source.now) (D.view y.door.now))
+          (moment (S.view z.source.now) (D.view z.door.now))
+          (same_setting A.tells A.blobs x.table.now y.table.now x.setting y.setting (ap (λ t. t.now) h.2) h.3)
+          (D.later x.door.now y.door.now h.4).actor h.6 k.6,
+    ) };
 
     ghost later = { λ rs x y h. files_kept (read_setting A.tells A.blobs x.table.now x.setting)
         (read_setting A.tells A.blobs y.table.now y.setting) (D.view x.door.now).actor rs x.total y.total

@@ -1,3 +1,4 @@
+// A set of documents, one bit each.
 ghost use Rattle.std.specs.Prelude.{◌≡◌, ℕ, ◌<◌, ◌&&◌, ◌||◌, List, Bool, true, false, Some, length, map, nat_le, replicate, All, IfOk, slice_get, slice_set};
 ghost use Rattle.std.specs.List.Sorted.{IsStrictlyIncreasing};
 ghost use Rattle.doc_bits.specs.Places.{zip_with, and_not, places_of};
@@ -119,4 +120,12 @@ impl DocBits {
     {
         Places::new(&self.words)
     }
+}
+
+// A missing proof of `Send` or `Sync` shows here, and not first at the threads above.
+fn crosses<T: Send + Sync>() {}
+
+/// A set may be handed to another thread, and shared between threads.
+pub fn bits_cross() {
+    crosses::<DocBits>()
 }

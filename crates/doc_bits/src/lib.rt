@@ -4,10 +4,8 @@
 mod bits;
 mod places;
 mod tally;
-#[cfg(test)]
-mod tests;
 mod words;
 
-pub use bits::DocBits;
+pub use bits::{DocBits, bits_cross};
 pub use places::Places;
-pub use tally::Tally;
+pub use tally::{Tally, tallies_cross};

@@ -1,3 +1,4 @@
+// The places of a set that hold true, one after another.
 ghost use Rattle.std.specs.Prelude.{◌≡◌, ℕ, ◌*◌, ◌≤◌, ◌^◌, List, length};
 ghost use Rattle.std.specs.Iterator.{YieldsFirst, item_count};
 ghost use Rattle.doc_bits.specs.Words.{places_of_words};

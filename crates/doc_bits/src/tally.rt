@@ -1,3 +1,4 @@
+// Counts of how many sets hold each document.
 ghost use Rattle.std.specs.Prelude.{◌≡◌, ◌+◌, ◌<◌, ◌≤◌, ◌^◌, true, false, length, map, replicate, nat_le, IfOk};
 ghost use Rattle.doc_bits.specs.Places.{zip_with};
 ghost use Rattle.doc_bits.specs.Counts.{Counted, counted};
@@ -57,4 +58,12 @@ impl Tally {
     {
         out.fill_at_least(&self.counts, m);
     }
+}
+
+// A missing proof of `Send` or `Sync` shows here, and not first at the threads above.
+fn crosses<T: Send + Sync>() {}
+
+/// A tally may be handed to another thread, and shared between threads.
+pub fn tallies_cross() {
+    crosses::<Tally>()
 }

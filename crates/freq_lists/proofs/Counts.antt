@@ -1,8 +1,8 @@
 -- What the calls do to how often a node stands in the lists, and where a node is found.
-use Rattle.std.proofs.Common.{arith, ◌≡◌, ◌<◌, ◌≤◌, ◌+◌, ℕ, zero, suc, true, false, List, [], ◌∷◌, ◌++◌, ap, inl, inr, refl, length, Some, None, replicate}
+use Rattle.std.proofs.Common.{arith, ◌≡◌, ◌<◌, ◌≤◌, ◌+◌, ℕ, zero, suc, true, false, List, [], ◌∷◌, ◌++◌, sym, ◌∙◌, ap, inl, inr, refl, length, Some, None, replicate}
 use Rattle.std.specs.Prelude.{cond, not, ◌==◌}
 use Rattle.std.specs.List.{position_from}
-use Rattle.std.proofs.lemmas.Bool.{cases_Bool}
+use Rattle.std.proofs.lemmas.Bool.{cases_eq, cases_Bool}
 use Rattle.std.proofs.lemmas.Bool.Decides.{nat_tests}
 use Rattle.std.proofs.lemmas.List.Elements.{filter-append}
 use Rattle.freq_lists.specs.Lists.{without, unlink, push_back, times, times_in, next, behind, is_in, list_at}
@@ -104,3 +104,27 @@ pub next_is : (n k : ℕ) (ls : List (List ℕ)) → times n ls ≤ 1 → is_in 
 next_is n k [] h t = cc
 next_is n zero (l ∷ ls) h t = rw t refl
 next_is n (suc k) (l ∷ ls) h t = rw (is_in_not n l (omega (arith, h, in_times n k ls t)), next_is n k ls (omega (arith, h)) t) refl
+
+-- ---- what a removal leaves
+
+pub times_without : (n : ℕ) (l : List ℕ) → times_in n (without n l) ≡ 0
+times_without n [] = refl
+times_without n (x ∷ xs) = elim (cases_Bool (x == n)) [
+  | inl t ↦ rw t (times_without n xs)
+  | inr t ↦ rw (t, t, times_without n xs) refl
+]
+
+pub times_unlink : (n : ℕ) (ls : List (List ℕ)) → times n (unlink n ls) ≡ 0
+times_unlink n [] = refl
+times_unlink n (l ∷ ls) = rw (times_without n l, times_unlink n ls) refl
+
+pub without_other : (m n : ℕ) (l : List ℕ) → ¬ (n ≡ m) → times_in m (without n l) ≡ times_in m l
+without_other m n [] d = refl
+without_other m n (x ∷ l) d = elim (cases_eq x n) [
+  | inl e ↦ rw (same_is x n e, other_is x m (λ f. d (sym e ∙ f))) (omega (arith, without_other m n l d))
+  | inr e ↦ rw (other_is x n e) (omega (arith, without_other m n l d))
+]
+
+pub unlink_other_times : (m n : ℕ) (ls : List (List ℕ)) → ¬ (n ≡ m) → times m (unlink n ls) ≡ times m ls
+unlink_other_times m n [] d = refl
+unlink_other_times m n (l ∷ ls) d = omega (arith, without_other m n l d, unlink_other_times m n ls d)

@@ -1,5 +1,9 @@
 pub mod Counts
-pub mod Placed
+pub mod Changes
+pub mod Beside
+pub mod Linked
+pub mod Walks
+pub mod Shown
+pub mod Calls
 pub mod Room
-pub mod Seen
 mod Rows

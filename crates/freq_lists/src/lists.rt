@@ -1,32 +1,29 @@
 ghost use Rattle.std.specs.Prelude.{◌≡◌, ◌<◌, ◌≤◌, ◌+◌, ℕ, IfOk, IfSome, [], not, ◌==◌, length, replicate};
 ghost use Rattle.freq_lists.specs.Lists.{ListsView, push_back, unlink, front, next, list_of, list_at, times};
 
-use crate::entries::{Entry, first_of, place_of};
+use crate::links::{Ends, Node, set_before, set_behind};
 use std::alloc::{AllocError, Global};
 use std::marker::Model;
 
 /// A fixed number of lists of node numbers. Each node is in one list at most. Clauses see the number of nodes and
-/// the lists, each a list of node numbers from its front.
+/// the lists, each a list of node numbers from its front. Each call but `new` takes the same few steps, however many
+/// nodes there are.
 #[derive(Drop)]
 pub struct FreqLists {
-    // the nodes that are in a list, in the order of their last `push_back`
-    entries: Vec<Entry>,
-    nodes: u32,
-    lists: u32,
+    nodes: Vec<Node>,
+    ends: Vec<Ends>,
 }
 
 impl Model for FreqLists {
-    ghost use Rattle.std.specs.Prelude.{◌≡◌, ◌<◌, ◌≤◌, ◌+◌, ℕ, [], replicate, vec_capacity};
-    ghost use Rattle.freq_lists.specs.Lists.{ListsView, times_in};
-    ghost use Rattle.freq_lists.specs.Entries.{AreWithin, nodes_of, placed};
+    ghost use Rattle.std.specs.Prelude.{length};
+    ghost use Rattle.freq_lists.specs.Lists.{ListsView};
+    ghost use Rattle.freq_lists.specs.Links.{IsLinked, walked};
 
     ghost Value = { ListsView };
 
-    ghost view = { λ f. record { nodes = f.nodes; lists = placed f.entries.items (replicate f.lists []) } };
+    ghost view = { λ f. record { nodes = length f.nodes.items; lists = walked f.nodes.items f.ends.items } };
 
-    ghost invariant = { λ f. AreWithin f.nodes f.lists f.entries.items
-        × ((n : ℕ) → times_in n (nodes_of f.entries.items) ≤ 1)
-        × (f.nodes ≤ vec_capacity f.entries) };
+    ghost invariant = { λ f. IsLinked f.nodes.items f.ends.items (walked f.nodes.items f.ends.items) };
 }
 
 impl FreqLists {
@@ -34,10 +31,18 @@ impl FreqLists {
     pub fn new(alloc: Global, nodes: u32, lists: u32) -> Result<FreqLists, AllocError>
         ensures { IfOk result (λ f. f ≡ record { nodes = nodes; lists = replicate lists [] }) }
     {
+        let free = Node {
+            previous: None,
+            next: None,
+            list: None,
+        };
+        let empty = Ends {
+            first: None,
+            last: None,
+        };
         Ok(FreqLists {
-            entries: Vec::with_capacity(alloc, nodes as usize)?,
-            nodes,
-            lists,
+            nodes: vec![in alloc; free; nodes as usize]?,
+            ends: vec![in alloc; empty; lists as usize]?,
         })
     }
 
@@ -49,9 +54,14 @@ impl FreqLists {
         ensures lists { self.new ≡ record self.old { lists = push_back list node self.old.lists } }
         ensures count { length self.new.lists ≡ length self.old.lists }
     {
-        let Ok(()) = self.entries.push(Entry { list, node }) else {
-            unreachable!()
+        let last = self.ends[list as usize].last;
+        self.nodes[node as usize] = Node {
+            previous: last,
+            next: None,
+            list: Some(list),
         };
+        set_behind(&mut self.nodes, &mut self.ends, list, last, Some(node));
+        set_before(&mut self.nodes, &mut self.ends, list, None, Some(node));
     }
 
     /// Takes a node out of its list. The others keep their order.
@@ -60,7 +70,16 @@ impl FreqLists {
         ensures lists { self.new ≡ record self.old { lists = unlink node self.old.lists } }
         ensures count { length self.new.lists ≡ length self.old.lists }
     {
-        self.entries.retain(|entry| entry.node != node);
+        let links = self.nodes[node as usize];
+        let Some(list) = links.list else { return };
+        let (previous, next) = (links.previous, links.next);
+        set_behind(&mut self.nodes, &mut self.ends, list, previous, next);
+        set_before(&mut self.nodes, &mut self.ends, list, next, previous);
+        self.nodes[node as usize] = Node {
+            previous: None,
+            next: None,
+            list: None,
+        };
     }
 
     /// The first node of a list, or None exactly where it is empty.
@@ -68,7 +87,7 @@ impl FreqLists {
         requires { list < length self.now.lists }
         ensures { result ≡ front list self.now.lists }
     {
-        first_of(&self.entries, list)
+        self.ends[list as usize].first
     }
 
     /// The node behind this one in its list, or None exactly where it is the last.
@@ -76,10 +95,7 @@ impl FreqLists {
         requires { 0 < times node self.now.lists }
         ensures { result ≡ next node self.now.lists }
     {
-        let Some(place) = place_of(&self.entries, node) else {
-            return None
-        };
-        first_of(&self.entries[place + 1..], self.entries[place].list)
+        self.nodes[node as usize].next
     }
 
     /// The number of the list that has the node, or None exactly where none has it.
@@ -88,10 +104,7 @@ impl FreqLists {
         ensures list { result ≡ list_of node self.now.lists }
         ensures range { IfSome result (λ k. k < length self.now.lists) }
     {
-        let Some(place) = place_of(&self.entries, node) else {
-            return None
-        };
-        Some(self.entries[place].list)
+        self.nodes[node as usize].list
     }
 
     /// What is true of every value: no node stands twice, each is in range, and no list is longer than the number of
@@ -102,33 +115,6 @@ impl FreqLists {
         ensures short { (k : ℕ) → length (list_at k self.now.lists) ≤ self.now.nodes }
         ensures few { (self.now.nodes < 4294967296) × (length self.now.lists < 4294967296) }
     {
-        let _nodes = self.nodes;
-        let _lists = self.lists;
-    }
-}
-
-#[cfg(test)]
-mod tests {
-    use super::*;
-
-    fn crosses<T: Send + Sync>() {}
-
-    #[test]
-    fn lists_cross_between_threads() {
-        crosses::<FreqLists>();
-    }
-
-    #[test]
-    fn three_pushes_and_an_unlink(rt: HostRuntime) {
-        let mut lists = FreqLists::new(rt.alloc(), 5, 3).expect(&rt, "memory");
-        lists.push_back(1, 3);
-        lists.push_back(1, 0);
-        lists.push_back(1, 4);
-        lists.unlink(0);
-        assert_eq!(rt; lists.front(1), Some(3));
-        assert_eq!(rt; lists.next(3), Some(4));
-        assert_eq!(rt; lists.next(4), None);
-        assert_eq!(rt; lists.list_of(0), None);
-        assert_eq!(rt; lists.front(0), None);
+        let _ = &self.nodes;
     }
 }

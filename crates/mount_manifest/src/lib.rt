@@ -8,8 +8,6 @@ mod manifest;
 mod member;
 mod names;
 mod record;
-#[cfg(test)]
-mod tests;
 
 pub use byte_text::{Blobs, Name, Text};
 pub use error::{Field, ManifestError};

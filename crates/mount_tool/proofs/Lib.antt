@@ -1,6 +1,5 @@
 pub mod Behind
 pub mod Counts
-pub mod Counted
 pub mod Showing
 pub mod Allowed
 pub mod Sample

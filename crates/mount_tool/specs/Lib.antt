@@ -2,4 +2,3 @@ pub mod Words
 pub mod Replies
 pub mod Terms
 pub mod Runs
-pub mod Worked

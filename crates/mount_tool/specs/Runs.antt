@@ -3,10 +3,10 @@ use Rattle.std.specs.Prelude.{ℕ, ◌≡◌, ◌⊎◌, ◌==◌, ◌||◌, ◌
 use Rattle.std.specs.Option.{option_map_or}
 use Rattle.cache_outside.specs.Causes.{Rose}
 use Rattle.cache_outside.specs.Listing.{Listing}
-use Rattle.cache_outside.specs.Sinks.{behind}
+use Rattle.cache_outside.specs.Sinks.{SinkView, behind}
 use Rattle.mount_tool.specs.Words.{Term}
 use Rattle.mount_tool.specs.Replies.{line_text, status_of, usage_text}
-use Rattle.mount_tool.specs.Terms.{plain}
+use Rattle.mount_tool.specs.Terms.{expected_line}
 use Rattle.mount_tool.specs.declared.line.Line.{Line}
 use Rattle.mount_tool.specs.declared.line.Line.TheVariants.{Fault, NoMemory}
 
@@ -25,21 +25,22 @@ abbrev pub IsFront : Option (List ℕ) → Option (List ℕ) → List ℕ → Ty
 IsFront old new text = (k : ℕ) × (new ≡ behind old (take k text))
 
 -- the text was written whole, and the status is its own; or a front of it was, and the sink failed or memory was wanted
-abbrev pub IsWritten : Option (List ℕ) → Option (List ℕ) → ℕ → ℕ → List ℕ → ℕ → ℕ → Type 0
-IsWritten old new before now text own status =
-    ((new ≡ behind old text) × (status ≡ own)) ⊎ (IsFront old new text × (((status ≡ 5) × Rose before now) ⊎ (status ≡ 6)))
+abbrev pub IsWritten : SinkView → SinkView → List ℕ → ℕ → ℕ → Type 0
+IsWritten before now text own status =
+    ((now.written ≡ behind before.written text) × (status ≡ own))
+    ⊎ (IsFront before.written now.written text × (((status ≡ 5) × Rose before.faults now.faults) ⊎ (status ≡ 6)))
 
 -- `usage` was written whole with status 2, or a front of it where the sink failed; or the sink wanted memory, with status 6
-abbrev pub IsUsageRun : Option (List ℕ) → Option (List ℕ) → ℕ → ℕ → ℕ → Type 0
-IsUsageRun old new before now status =
-    ((status ≡ 2) × ((new ≡ behind old usage_text) ⊎ (IsFront old new usage_text × Rose before now))) ⊎ ((status ≡ 6) × IsFront old new usage_text)
+abbrev pub IsUsageRun : SinkView → SinkView → ℕ → Type 0
+IsUsageRun before now status =
+    ((status ≡ 2) × ((now.written ≡ behind before.written usage_text) ⊎ (IsFront before.written now.written usage_text × Rose before.faults now.faults)))
+    ⊎ ((status ≡ 6) × IsFront before.written now.written usage_text)
 
 -- a run of `term`: an allowed line, and how it and its newline were written
-pub record IsTermRun (tells : Bool) (blobs : Listing) (t : Term) (source_before source_now sink_before sink_now : ℕ)
-    (old new : Option (List ℕ)) (status : ℕ) : Type 0 where
+pub record IsTermRun (tells : Bool) (blobs : Listing) (t : Term) (faults_before faults_now : ℕ) (sink_before sink_now : SinkView) (status : ℕ) : Type 0 where
   pub line : Line
-  pub allowed : IsAllowed tells (plain blobs t) source_before source_now line
-  pub written : IsWritten old new sink_before sink_now (line_text line ++ codes "\n") (status_of line) status
+  pub allowed : IsAllowed tells (expected_line blobs t) faults_before faults_now line
+  pub written : IsWritten sink_before sink_now (line_text line ++ codes "\n") (status_of line) status
 
 -- the words are not in form, or there is no source
 abbrev pub is_usage : Option Term → ℕ → Bool

@@ -64,5 +64,5 @@ abbrev pub found_line : List ℕ → List ℕ → Listing → Option ℕ → Lin
 found_line field value blobs None = Refused Missing
 found_line field value blobs (Some m) = manifest_line field value blobs m (manifest_at blobs m)
 
-abbrev pub plain : Listing → Term → Line
-plain blobs t = found_line t.field t.term blobs (manifest_number t.manifest blobs)
+abbrev pub expected_line : Listing → Term → Line
+expected_line blobs t = found_line t.field t.term blobs (manifest_number t.manifest blobs)

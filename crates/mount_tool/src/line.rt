@@ -1,3 +1,4 @@
+// The line that is written, its text and its status.
 ghost use Rattle.std.specs.Prelude.{◌≡◌, ◌++◌, IfOk, OnOk, string_bytes};
 ghost use Rattle.mount_tool.specs.Replies.{shown_text, hits_text, bad_text};
 

@@ -17,10 +17,6 @@ pub use run::{Outcome, mount_tool};
 pub use shown::Shown;
 
 #[cfg(test)]
-mod lucene_tests;
-#[cfg(test)]
-mod query_tests;
-#[cfg(test)]
 mod tests;
 
 use std::process::ExitCode;

@@ -26,7 +26,8 @@ struct TermWords<'w> {
 }
 
 fn term_of(words: &[String]) -> Option<TermWords<'_>>
-    ensures { option_map (λ w. record { manifest = w.manifest.now; field = w.field.now; term = w.term.now }) result ≡ term_words (texts words.now) }
+    ensures { option_map (λ w. record { manifest = w.manifest.now; field = w.field.now; term = w.term.now }) result
+        ≡ term_words (texts words.now) }
 {
     match words {
         [command, manifest, field, term] => {
@@ -46,7 +47,7 @@ fn term_of(words: &[String]) -> Option<TermWords<'_>>
 
 /// Writes a line and its newline, and gives the status: the line's own, 5 where the sink failed, 6 for want of memory.
 fn finish<K: Sink>(alloc: Global, sink: &mut K, line: &Line) -> u8
-    ensures { IsWritten (K.written sink.old) (K.written sink.new) (K.faults sink.old) (K.faults sink.new)
+    ensures { IsWritten (K.view sink.old) (K.view sink.new)
         (line_text line.now ++ codes "\n") (status_of line.now) result }
 {
     let Ok(mut text) = line.text(alloc) else {
@@ -63,7 +64,7 @@ fn finish<K: Sink>(alloc: Global, sink: &mut K, line: &Line) -> u8
 }
 
 fn usage<S: Drop, K: Sink>(sources: Vec<S>, sink: &mut K) -> Outcome<S>
-    ensures run { IsUsageRun (K.written sink.old) (K.written sink.new) (K.faults sink.old) (K.faults sink.new) result.status }
+    ensures run { IsUsageRun (K.view sink.old) (K.view sink.new) result.status }
     ensures sources { result.sources ≡ sources }
 {
     match write_all(sink, b"usage\n") {
@@ -84,13 +85,13 @@ pub fn mount_tool<A: Archive, S: BlobSource<A> + Drop, K: Sink>(
 ) -> Outcome<S>
     ensures usage_only { result.status ≡ 2 → is_usage (term_words (texts words.now)) (length sources.items) ≡ true }
     ensures usage { is_usage (term_words (texts words.now)) (length sources.items) ≡ true
-        → IsUsageRun (K.written sink.old) (K.written sink.new) (K.faults sink.old) (K.faults sink.new) result.status }
+        → IsUsageRun (K.view sink.old) (K.view sink.new) result.status }
     ensures term { (t : Term) → term_words (texts words.now) ≡ Some t → 0 < length sources.items
-        → IsTermRun A.tells A.blobs t (count_of S.faults sources.items 0) (count_of S.faults result.sources.items 0)
-        (K.faults sink.old) (K.faults sink.new) (K.written sink.old) (K.written sink.new) result.status }
+        → IsTermRun A.tells A.blobs t (count_of (λ s. (S.view s).faults) sources.items 0)
+        (count_of (λ s. (S.view s).faults) result.sources.items 0) (K.view sink.old) (K.view sink.new) result.status }
 
     // The sources come back in number and order, and only the first one was read.
-    ensures sources { map S.which result.sources.items ≡ map S.which sources.items }
+    ensures sources { map (λ s. (S.view s).identity) result.sources.items ≡ map (λ s. (S.view s).identity) sources.items }
     ensures others { drop 1 result.sources.items ≡ drop 1 sources.items }
 {
     let Some(words) = term_of(words) else {

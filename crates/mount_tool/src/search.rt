@@ -8,7 +8,7 @@ ghost use Rattle.shard_search.specs.Hits.{hits};
 ghost use Rattle.shard_search.specs.Answers.{IsHitOf, pair_of};
 ghost use Rattle.mount_tool.specs.Runs.{IsAllowed};
 ghost use Rattle.mount_tool.specs.Words.{Term};
-ghost use Rattle.mount_tool.specs.Terms.{plain, facts_line, hits_line, error_line, named, physical_name};
+ghost use Rattle.mount_tool.specs.Terms.{expected_line, facts_line, hits_line, error_line, named, physical_name};
 
 use crate::line::Line;
 use crate::refusal::Refusal;
@@ -52,7 +52,8 @@ fn shown_of(alloc: Global, shard: &Manifest, hits: &HitList) -> Result<Shown, Al
 /// The line of these hits.
 pub(crate) fn found_line(alloc: Global, shard: &Manifest, hits: &Hits) -> Line
     requires { All (IsHitOf shard.now.segments) hits.now.list }
-    ensures { IsAllowed true (Line.Hits hits.now.total (map (named shard.now.segments) (map pair_of hits.now.list))) 0 0 result }
+    ensures { IsAllowed true
+        (Line.Hits hits.now.total (map (named shard.now.segments) (map pair_of hits.now.list))) 0 0 result }
 {
     match shown_of(alloc, shard, &hits.list) {
         Ok(shown) => Line::Hits {
@@ -83,9 +84,10 @@ fn shard_line<A: Archive, S: BlobSource<A>>(
     value: &str,
 ) -> Line
     requires { length table.now.files ≡ length shard.now.files }
-    ensures allowed { IsAllowed A.tells (hits_line shard.now (hits (content A.blobs table.now.number) (term field.now value.now) shard.now.segments))
-        (S.faults source.old) (S.faults source.new) result }
-    ensures same { S.which source.new ≡ S.which source.old }
+    ensures allowed { IsAllowed A.tells
+        (hits_line shard.now (hits (content A.blobs table.now.number) (term field.now value.now) shard.now.segments))
+        (S.view source.old).faults (S.view source.new).faults result }
+    ensures same { (S.view source.new).identity ≡ (S.view source.old).identity }
 {
     let Ok(query) = term_query(alloc, field, value) else {
         return Line::NoMemory;
@@ -111,9 +113,10 @@ fn manifest_line<A: Archive, S: BlobSource<A>>(
     value: &str,
 ) -> Line
     requires small { number < 65536 }
-    requires told { IsTrue A.tells → manifest_at A.blobs number ≡ Ok manifest.now }
-    ensures allowed { IsAllowed A.tells (facts_line field.now value.now A.blobs number manifest.now) (S.faults source.old) (S.faults source.new) result }
-    ensures same { S.which source.new ≡ S.which source.old }
+    requires manifest { IsTrue A.tells → manifest_at A.blobs number ≡ Ok manifest.now }
+    ensures allowed { IsAllowed A.tells (facts_line field.now value.now A.blobs number manifest.now)
+        (S.view source.old).faults (S.view source.new).faults result }
+    ensures same { (S.view source.new).identity ≡ (S.view source.old).identity }
 {
     match resolve::<A, S>(alloc, source, number, manifest) {
         Ok(table) => shard_line::<A, S>(alloc, source, manifest, &table, field, value),
@@ -146,9 +149,10 @@ pub(crate) fn term_line<A: Archive, S: BlobSource<A>>(
     field: &str,
     value: &str,
 ) -> Line
-    ensures allowed { IsAllowed A.tells (plain A.blobs (record { manifest = manifest.now; field = field.now; term = value.now }))
-        (S.faults source.old) (S.faults source.new) result }
-    ensures same { S.which source.new ≡ S.which source.old }
+    ensures allowed { IsAllowed A.tells
+        (expected_line A.blobs (record { manifest = manifest.now; field = field.now; term = value.now }))
+        (S.view source.old).faults (S.view source.new).faults result }
+    ensures same { (S.view source.new).identity ≡ (S.view source.old).identity }
 {
     match load::<A, S>(alloc, source, manifest) {
         Ok((number, loaded)) => {

@@ -1,3 +1,4 @@
+// The hits that a line shows, by the names of their segments.
 ghost use Rattle.std.specs.Prelude.{◌≡◌, ◌<◌, ◌++◌, ◌∷◌, [], List, ℕ, length, OnOk, OnErr, slice_get, Some};
 
 use byte_text::Name;

@@ -8,9 +8,9 @@ use cache_outside::{OutError, Sink};
 
 /// Hands the sink the rest of the text until it has taken all of it.
 pub(crate) fn write_all<K: Sink>(sink: &mut K, text: &[u8]) -> Result<(), OutError>
-    ensures whole { OnOk result (K.written sink.new ≡ behind (K.written sink.old) text.now) }
-    ensures front { OnErr result (IsFront (K.written sink.old) (K.written sink.new) text.now) }
-    ensures cause { HasCause (K.faults sink.old) (K.faults sink.new) result }
+    ensures whole { OnOk result ((K.view sink.new).written ≡ behind (K.view sink.old).written text.now) }
+    ensures front { OnErr result (IsFront (K.view sink.old).written (K.view sink.new).written text.now) }
+    ensures cause { HasCause (K.view sink.old).faults (K.view sink.new).faults result }
 {
     let mut done = 0;
     while done < text.len() {

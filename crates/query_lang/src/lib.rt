@@ -6,8 +6,6 @@ mod members;
 mod print;
 mod query;
 mod reading;
-#[cfg(test)]
-mod tests;
 
 pub use byte_text::Text;
 pub use error::QueryError;

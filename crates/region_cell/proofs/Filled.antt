@@ -1,6 +1,6 @@
 -- Each call keeps that a present byte is the file's.
-use Rattle.std.proofs.Common.{arith, ◌≡◌, ◌≢◌, ◌<◌, ◌≤◌, ◌+◌, ◌-◌, ◌*◌, ◌/◌, ◌%◌, ℕ, Bool, true, false, List, [], ◌∷◌, ◌++◌, length, take, drop, sym, ◌∙◌, ap, inl, inr, refl, Option, Some, None, length-take, length-append}
-use Rattle.std.specs.Prelude.{◌⊎◌, ◌&&◌, ◌==◌, if◌then◌else◌, nat_lt, nat_le, min, map, find, slice_get, replicate, IsSome, IfSome}
+use Rattle.std.proofs.Common.{arith, ◌≡◌, ◌<◌, ◌≤◌, ◌+◌, ◌-◌, ◌*◌, ℕ, true, List, ◌++◌, length, take, drop, sym, ◌∙◌, ap, inl, inr, Option, Some, None, length-take, length-append}
+use Rattle.std.specs.Prelude.{◌&&◌, ◌==◌, if◌then◌else◌, nat_lt, slice_get}
 use Rattle.std.proofs.lemmas.Bool.{cases_lt, cases_Bool}
 use Rattle.std.proofs.lemmas.Bool.Decides.{nat_tests}
 use Rattle.std.proofs.lemmas.Option.{slice_get_within}
@@ -8,12 +8,12 @@ use Rattle.region_ranges.specs.declared.ranges.ByteRange.{ByteRange}
 use Rattle.region_ranges.specs.Ranges.{inside}
 use Rattle.region_ranges.specs.Keys.{manifest_of}
 use Rattle.sparse_tracker.specs.declared.gaps.OpenGap.{OpenGap}
-use Rattle.sparse_tracker.specs.ByteStates.{ByteState, absent, pending, present, is_present, is_under, change, byte_states_in, Tracker, open_gap, open_gap_at, claimed_run, least_unused, ids, gap_of, has_all}
+use Rattle.sparse_tracker.specs.ByteStates.{ByteState, absent, pending, present, is_present, is_under, byte_states_in, Tracker, open_gap_at, least_unused, ids, gap_of, has_all}
 use Rattle.sparse_tracker.specs.Kept as tracker
 use Rattle.cache_outside.specs.Frames.{put_at, SameOutside}
 use Rattle.blob_parts.specs.Content.{slice_of}
 use Rattle.region_cell.specs.Cells.{Region, len_of, IsFilled, assign, claim, claim_run, progress, fail, leave, region_bytes, file_of, part_of}
-use Rattle.region_cell.proofs.Places.{slot_change, slot_map, slot_replicate, slot_find, get_drop, get_take, get_take_past, get_front, get_back, same_slice, in_from, all_gives, is_present_gives, byte_state_here}
+use Rattle.region_cell.proofs.Places.{slot_change, slot_map, slot_replicate, slot_find, get_drop, get_take, get_front, get_back, same_slice, in_from, all_gives, is_present_gives, byte_state_here}
 
 module _ (files : ℕ → ℕ → List ℕ) (size : ℕ) where
   pub filled_assign : (tag len : ℕ) (c : Region) (bytes : List ℕ) → IsFilled files size (assign tag len c) bytes

@@ -1,6 +1,6 @@
 -- Each call keeps what the type keeps.
-use Rattle.std.proofs.Common.{arith, ◌≡◌, ◌≢◌, ◌<◌, ◌≤◌, ◌+◌, ◌-◌, ◌*◌, ◌/◌, ◌%◌, ℕ, Bool, true, false, List, [], length, sym, ◌∙◌, ap, subst, inl, inr, refl, Option, Some, None}
-use Rattle.std.specs.Prelude.{◌&&◌, if◌then◌else◌, nat_lt, map, slice_get, IsTrue, IsSome, IfSome, ◌⊎◌, Result, Ok, Err, OnOk, OnErr}
+use Rattle.std.proofs.Common.{arith, ◌≡◌, ◌<◌, ◌≤◌, ◌+◌, ◌-◌, ◌*◌, ◌%◌, ℕ, Bool, true, List, length, sym, ◌∙◌, ap, subst, inl, inr, refl, Option, Some, None}
+use Rattle.std.specs.Prelude.{◌&&◌, if◌then◌else◌, nat_lt, IsTrue, IsSome, IfSome, ◌⊎◌, Result, Ok, Err, OnOk, OnErr}
 use Rattle.std.proofs.Math.Nat.{add-mul-mod_self_right, mod-eq_of_lt}
 use Rattle.std.proofs.lemmas.List.{length-map}
 use Rattle.region_ranges.specs.declared.ranges.ByteRange.{ByteRange}
@@ -9,13 +9,13 @@ use Rattle.region_ranges.specs.Keys.{manifest_of}
 use Rattle.sparse_tracker.specs.declared.gaps.OpenGap.{OpenGap}
 use Rattle.sparse_tracker.specs.declared.tickets.Ticket.{Ticket}
 use Rattle.sparse_tracker.specs.declared.status.Status.TheVariants.{Ready}
-use Rattle.sparse_tracker.specs.ByteStates.{ByteState, absent, pending, present, is_under, change, Tracker, TrackerView, open_gap_at, gap_of, ticket_of, has_all, least_unused, ids}
+use Rattle.sparse_tracker.specs.ByteStates.{absent, pending, present, is_under, Tracker, TrackerView, open_gap_at, gap_of, ticket_of, has_all, least_unused, ids}
 use Rattle.sparse_tracker.specs.Kept as tracker
 use Rattle.sparse_tracker.specs.Places.{ClaimPlaces}
 use Rattle.cache_outside.specs.Frames.{put_at, bytes_at, SameOutside}
 use Rattle.blob_parts.specs.Content.{slice_of}
 use Rattle.blob_parts.specs.Pieces.{PieceView}
-use Rattle.region_cell.specs.Cells.{Region, FrameMetadata, CellMetadata, CellView, len_of, IsRanged, IsFilled, IsWhole, IsSized, IsKept, FitsGap, LiesInRange, claim, claim_run, progress, fail, leave, with_region, with_frame, file_of, part_of, region_bytes, TicketBytes, TicketContent}
+use Rattle.region_cell.specs.Cells.{Region, FrameMetadata, CellMetadata, CellView, len_of, IsRanged, IsFilled, IsSized, IsKept, FitsGap, LiesInRange, claim, claim_run, progress, fail, leave, with_region, file_of, part_of, region_bytes, TicketBytes, TicketContent}
 use Rattle.region_cell.proofs.Places.{length_change}
 use Rattle.region_cell.proofs.Ranged.{ranged_claim, ranged_progress, ranged_fail, ranged_leave}
 use Rattle.region_cell.proofs.Statuses.{Waits, Held, ready_is}
@@ -82,9 +82,9 @@ pub ok_then : {T E : Type 0} {P Q : Type 0} (r : Result T E) → (P → Q) → O
 ok_then (Ok v) f p = f p
 ok_then (Err e) f p = tt
 
-pub ok_under : {T E : Type 0} {P Q : Type 0} (r : Result T E) → (P → OnOk r Q) → OnOk r (P → Q)
-ok_under (Ok v) f = f
-ok_under (Err e) f = tt
+pub ok_under : {T E : Type 0} {P : Type 0} (Q : Type 0) (r : Result T E) → (P → OnOk r Q) → OnOk r (P → Q)
+ok_under Q (Ok v) f = f
+ok_under Q (Err e) f = tt
 
 -- what a call with two answers makes of a tracker
 pub by_answer : {T E : Type 0} (r : Result T E) (x ok err : TrackerView) → OnOk r (x ≡ ok) → OnErr r (x ≡ err) → (x ≡ ok) ⊎ (x ≡ err)

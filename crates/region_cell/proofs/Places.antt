@@ -1,11 +1,8 @@
 -- States and bytes place by place.
-use Rattle.std.proofs.Common.{arith, ◌≡◌, ◌≢◌, ◌<◌, ◌≤◌, ◌+◌, ◌-◌, ℕ, zero, suc, Bool, true, false, List, [], ◌∷◌, ◌++◌, sym, ◌∙◌, ap, inl, inr, refl, length, drop, take, Option, Some, None}
-use Rattle.std.specs.Prelude.{◌⊎◌, ◌==◌, ◌&&◌, nat_lt, map, find, replicate, slice_get, if◌then◌else◌}
+use Rattle.std.proofs.Common.{arith, ◌≡◌, ◌<◌, ◌≤◌, ◌+◌, ◌-◌, ℕ, zero, suc, Bool, true, List, [], ◌∷◌, ◌++◌, sym, ◌∙◌, ap, inl, inr, refl, length, drop, take, Some, None}
+use Rattle.std.specs.Prelude.{◌⊎◌, ◌==◌, map, find, replicate, slice_get}
 use Rattle.std.specs.List.{list_any, list_all}
 use Rattle.std.proofs.lemmas.Bool.{cases_Bool, cases_lt}
-use Rattle.std.proofs.lemmas.Bool.Decides.{nat_tests}
-use Rattle.std.proofs.lemmas.Option.{slice_get-get_or}
-use Rattle.sparse_tracker.specs.declared.gaps.OpenGap.{OpenGap}
 use Rattle.sparse_tracker.specs.declared.tickets.Ticket.{Ticket}
 use Rattle.sparse_tracker.specs.ByteStates.{ByteState, absent, pending, present, is_absent, is_present, change_from, byte_states_in, without_ticket}
 

@@ -1,18 +1,17 @@
 -- Each call keeps a cell's states and tickets as every cell has them.
-use Rattle.std.proofs.Common.{arith, ◌≡◌, ◌≢◌, ◌<◌, ◌≤◌, ◌+◌, ◌-◌, ◌*◌, ◌/◌, ℕ, Bool, true, false, List, [], ◌∷◌, ◌++◌, length, sym, ◌∙◌, ap, inl, inr, refl, Option, Some, None}
-use Rattle.std.specs.Prelude.{◌⊎◌, ◌&&◌, ◌||◌, if◌then◌else◌, nat_lt, nat_le, min, map, slice_get, replicate}
+use Rattle.std.proofs.Common.{arith, ◌≡◌, ◌<◌, ◌≤◌, ◌+◌, ◌-◌, ◌/◌, ℕ, true, false, List, length, sym, ◌∙◌, ap, inl, inr, refl, Option, Some, None}
+use Rattle.std.specs.Prelude.{◌&&◌, ◌||◌, if◌then◌else◌, nat_lt, map, slice_get}
 use Rattle.std.specs.List.{list_any}
 use Rattle.std.proofs.lemmas.Bool.{cases_lt, cases_Bool}
-use Rattle.std.proofs.lemmas.Bool.Decides.{nat_tests}
-use Rattle.std.proofs.lemmas.List.{length-map, length-replicate}
+use Rattle.std.proofs.lemmas.List.{length-map}
 use Rattle.std.proofs.lemmas.Option.{slice_get_within}
 use Rattle.region_ranges.specs.declared.ranges.ByteRange.{ByteRange}
 use Rattle.region_ranges.specs.Ranges.{inside, aligned}
 use Rattle.sparse_tracker.specs.declared.tickets.Ticket.{Ticket}
 use Rattle.sparse_tracker.specs.ByteStates as byte_states
 use Rattle.sparse_tracker.specs.ByteStates.{ByteState, absent, pending, present, is_absent, is_under, change, Tracker, claimed_run, open_gap, open_gap_at, with_ticket, new_ticket, wait_for_range, fail_ticket, lacks, least_unused, ids}
-use Rattle.sparse_tracker.specs.Places.{ClaimPlaces, IsFirstAbsent, IsRunRound}
-use Rattle.region_cell.specs.Cells.{Region, len_of, InOrder, IsRanged, assign, claim, claim_run, range_round, progress, fail, leave}
+use Rattle.sparse_tracker.specs.Places.{ClaimPlaces}
+use Rattle.region_cell.specs.Cells.{Region, len_of, IsRanged, assign, claim, claim_run, range_round, progress, fail, leave}
 use Rattle.region_cell.proofs.Places.{slot_change, slot_map, slot_behind, slot_without, length_change, Spot, spot_of, spot_from, is_absent_gives}
 use Rattle.region_cell.proofs.Orders.{order_new, order_map, order_progress, order_claim, reaches, in_is, part_gives, part_is}
 

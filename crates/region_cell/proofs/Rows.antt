@@ -1,12 +1,12 @@
 -- Worked examples, computed.
-use Rattle.std.specs.Prelude.{◌≡◌, ◌+◌, ◌%◌, ℕ, List, [], ◌∷◌, ◌++◌, true, false, map, replicate, Option, Some, None, refl}
+use Rattle.std.specs.Prelude.{◌≡◌, ◌%◌, ℕ, List, [], ◌∷◌, true, false, map, Some, None, refl}
 use Rattle.std.specs.List.{range_with_len}
 use Rattle.region_ranges.specs.declared.ranges.ByteRange.{ByteRange}
 use Rattle.region_ranges.specs.Keys.{tag_of, free_tag}
 use Rattle.sparse_tracker.specs.declared.status.Status.TheVariants.{Ready, Waiting, Failed}
 use Rattle.sparse_tracker.specs.declared.tickets.Ticket.{Ticket}
-use Rattle.sparse_tracker.specs.ByteStates.{absent, pending, present, new_tracker, status}
-use Rattle.region_cell.specs.Cells.{Region, assign, claim, claim_run, new_claim, progress, fail, leave, are_present, region_bytes, file_of, part_of}
+use Rattle.sparse_tracker.specs.ByteStates.{new_tracker, status}
+use Rattle.region_cell.specs.Cells.{Region, assign, claim, claim_run, new_claim, progress, fail, are_present, region_bytes, file_of, part_of}
 
 -- a cell of 8,192 bytes in ranges of 4,096
 abbrev wanted : ByteRange

@@ -1,12 +1,12 @@
 -- What a ticket's status tells.
-use Rattle.std.proofs.Common.{arith, ◌≡◌, ◌<◌, ◌≤◌, ◌-◌, ◌/◌, ℕ, Bool, true, false, List, sym, ◌∙◌, ap, inl, inr, refl, Option, Some, None}
-use Rattle.std.specs.Prelude.{◌==◌, not, slice_get, option_map, if◌then◌else◌, IsSome, IfSome, find}
+use Rattle.std.proofs.Common.{arith, ◌≡◌, ◌<◌, ◌≤◌, ℕ, Bool, true, false, List, sym, ◌∙◌, ap, inl, inr, Option, Some, None}
+use Rattle.std.specs.Prelude.{◌==◌, option_map}
 use Rattle.std.specs.List.{list_any, list_all}
 use Rattle.std.proofs.lemmas.Bool.{cases_Bool}
 use Rattle.sparse_tracker.specs.declared.tickets.Ticket.{Ticket}
 use Rattle.region_ranges.specs.declared.ranges.ByteRange.{ByteRange}
 use Rattle.sparse_tracker.specs.declared.status.Status.{Status}
-use Rattle.sparse_tracker.specs.declared.status.Status.TheVariants.{Ready, Waiting, Failed, Open}
+use Rattle.sparse_tracker.specs.declared.status.Status.TheVariants.{Ready, Open}
 use Rattle.sparse_tracker.specs.ByteStates.{ByteState, Tracker, is_absent, is_present, byte_states_in, status_of, status, ticket_of, has_all}
 use Rattle.region_cell.specs.Cells.{Region, len_of, IsRanged}
 use Rattle.region_cell.proofs.Places.{slot_find}

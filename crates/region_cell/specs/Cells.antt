@@ -1,7 +1,6 @@
 -- A region's cell: the tag of its key, its tracker, and the bytes of its frame. What a call makes of key and tracker is one equation on a `Region`.
 use Rattle.std.specs.Prelude.{◌≡◌, ◌≢◌, ◌⊎◌, ◌↔◌, ◌<◌, ◌≤◌, ◌+◌, ◌-◌, ◌*◌, ◌/◌, ◌%◌, ◌^◌, ℕ, Bool, true, IsTrue, List, length, slice_get, Option, Some, None, IfSome}
 use Rattle.region_ranges.specs.declared.ranges.ByteRange.{ByteRange}
-use Rattle.region_ranges.specs.declared.keys.Config.{Config}
 use Rattle.region_ranges.specs.declared.keys.RegionKey.{RegionKey}
 use Rattle.region_ranges.specs.Ranges.{aligned}
 use Rattle.region_ranges.specs.Keys.{free_tag, tag_of, manifest_of}

@@ -2,6 +2,7 @@
 use cache_outside::Archive;
 
 /// The sample archive, whose blobs clauses know.
+#[derive(Drop)]
 pub struct SampleArchive;
 
 impl Archive for SampleArchive {

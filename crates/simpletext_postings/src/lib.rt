@@ -20,7 +20,3 @@ pub use posting::Posting;
 pub use rows::{Row, Rows};
 pub use writing::write;
 
-#[cfg(test)]
-mod tests;
-#[cfg(test)]
-mod writing_tests;

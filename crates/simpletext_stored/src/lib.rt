@@ -10,8 +10,6 @@ mod live_form;
 mod live_state;
 mod live_text;
 mod state;
-#[cfg(test)]
-mod tests;
 mod words;
 
 pub use error::StoredError;

@@ -6,8 +6,6 @@ mod errors;
 mod escapes;
 mod reader;
 mod steps;
-#[cfg(test)]
-mod tests;
 mod words;
 
 pub use errors::TextError;

@@ -50,7 +50,11 @@ const CONFIG: Config = Config {
 };
 
 /// A cell for the file's first region.
-fn first<F: Frame>(alloc: Global, frame: F, table: &PartTable<SampleArchive>) -> RegionCell<SampleArchive, F>
+fn first<F: Frame>(
+    alloc: Global,
+    frame: F,
+    table: &PartTable<SampleArchive>,
+) -> RegionCell<SampleArchive, F>
     requires size { (F.view frame).size ≡ 8192 }
     requires table { (table.now.number ≡ 2) × (0 < length table.now.files) × (file_length table.now 0 ≡ 10000) }
     ensures { IsAt fresh result.metadata }
@@ -67,7 +71,11 @@ fn first<F: Frame>(alloc: Global, frame: F, table: &PartTable<SampleArchive>) ->
 }
 
 /// A cell for the file's last region.
-fn last<F: Frame>(alloc: Global, frame: F, table: &PartTable<SampleArchive>) -> RegionCell<SampleArchive, F>
+fn last<F: Frame>(
+    alloc: Global,
+    frame: F,
+    table: &PartTable<SampleArchive>,
+) -> RegionCell<SampleArchive, F>
     requires size { (F.view frame).size ≡ 8192 }
     requires table { (table.now.number ≡ 2) × (0 < length table.now.files) × (file_length table.now 0 ≡ 10000) }
     ensures { IsAt short result.metadata }
@@ -333,11 +341,7 @@ fn a_frame_that_fails(rt: HostRuntime) -> Result<(), Fail> {
         assert!(rt; false);
         return Ok(());
     };
-    let mut cell = first(
-        alloc,
-        Faulty::new(alloc, 8192, true)?,
-        &table,
-    );
+    let mut cell = first(alloc, Faulty::new(alloc, 8192, true)?, &table);
     let _claim = claim_first(&mut cell)?;
     let Ok(piece) = piece(alloc, &mut source, &table, 0, 150) else {
         assert!(rt; false);

@@ -3,17 +3,20 @@ use crate::tests::rows::{Answer, Step, run};
 use crate::tests::sample::{ONE, TWO, core_of_one, core_of_two, source, table};
 use cache_door::{Entered, Glance, Taken};
 use region_ranges::ByteRange;
-use std::process::Abort;
 use std::test::Fail;
 
-const fn part(start: u64, end: u64) -> ByteRange {
+fn part(start: u64, end: u64) -> ByteRange {
     ByteRange { start, end }
 }
 
-const FIRST: ByteRange = part(0, 4);
-const SECOND: ByteRange = part(4096, 4100);
+const FIRST: ByteRange = ByteRange { start: 0, end: 4 };
 
-const fn enter(actor: u32, part: ByteRange) -> Step {
+const SECOND: ByteRange = ByteRange {
+    start: 4096,
+    end: 4100,
+};
+
+fn enter(actor: u32, part: ByteRange) -> Step {
     Step::Enter {
         actor,
         mount: 0,
@@ -22,12 +25,12 @@ const fn enter(actor: u32, part: ByteRange) -> Step {
     }
 }
 
-const fn store(actor: u32, part: ByteRange, count: u32) -> Step {
+fn store(actor: u32, part: ByteRange, count: u32) -> Step {
     Step::Store { actor, part, count }
 }
 
 // the answer of an entry that holds this region and is told this gap
-const fn held(region: u32, start: u64, end: u64) -> Answer {
+fn held(region: u32, start: u64, end: u64) -> Answer {
     Answer::Entered(Entered::Held {
         region,
         gap: Some(ByteRange { start, end }),
@@ -35,20 +38,23 @@ const fn held(region: u32, start: u64, end: u64) -> Answer {
 }
 
 // and of one that is told none
-const fn joined(region: u32) -> Answer {
+fn joined(region: u32) -> Answer {
     Answer::Entered(Entered::Held { region, gap: None })
 }
 
 const LEFT: (Step, Answer) = (Step::Leave { actor: 0 }, Answer::Done);
+
 const FAILED: (Step, Answer) = (Step::Fail { actor: 0 }, Answer::Done);
+
 const OTHER_LEFT: (Step, Answer) = (Step::Leave { actor: 1 }, Answer::Done);
+
 const OTHER_FAILED: (Step, Answer) = (Step::Fail { actor: 1 }, Answer::Done);
 
-const fn took(actor: u32, first: u64, taken: Taken) -> (Step, Answer) {
+fn took(actor: u32, first: u64, taken: Taken) -> (Step, Answer) {
     (Step::Take { actor, first }, Answer::Took(taken))
 }
 
-const fn looked(part: ByteRange, seen: Glance) -> (Step, Answer) {
+fn looked(part: ByteRange, seen: Glance) -> (Step, Answer) {
     (Step::Glance { region: 0, part }, Answer::Looked(seen))
 }
 

@@ -26,15 +26,31 @@ pub enum Step {
         part: ByteRange,
         count: u32,
     },
-    Fail { actor: u32 },
-    Leave { actor: u32 },
+    Fail {
+        actor: u32,
+    },
+    Leave {
+        actor: u32,
+    },
     /// of what is wanted, whose first byte has this place in the file
-    Take { actor: u32, first: u64 },
-    Glance { region: u32, part: ByteRange },
-    Decay { now: u64 },
+    Take {
+        actor: u32,
+        first: u64,
+    },
+    Glance {
+        region: u32,
+        part: ByteRange,
+    },
+    Decay {
+        now: u64,
+    },
     Clear,
-    Live { mount: u32 },
-    Unmount { mount: u32 },
+    Live {
+        mount: u32,
+    },
+    Unmount {
+        mount: u32,
+    },
 }
 
 /// What a call answers.
@@ -113,7 +129,9 @@ fn store<A: Archive + Drop>(
     let Some(hold) = core.hold_of(actor) else {
         return Answer::Unfit;
     };
-    if hold.tag != want.key.pack() || hold.gap.end > want.len as u64 || hold.gap.upto > hold.gap.end
+    if hold.tag != want.key.pack()
+        || hold.gap.end > want.len as u64
+        || hold.gap.upto > hold.gap.end
     {
         return Answer::Unfit;
     }

@@ -3,7 +3,7 @@ ghost use Rattle.std.specs.Prelude.{◌≡◌, ◌+◌, ◌*◌, ◌<◌, IfOk, 
 ghost use Rattle.region_ranges.specs.Keys.{IsConfig};
 ghost use Rattle.blob_parts.specs.Content.{content};
 ghost use Rattle.cache_door.specs.Doors.{IsWant, HasLength};
-ghost use Rattle.cache_checks.specs.Checks.{IsCore};
+ghost use Rattle.cache_checks.specs.Checks.{IsCore, IsOfPart};
 
 use crate::tests::faulty::Faulty;
 use blob_parts::{PartTable, load, resolve};
@@ -33,9 +33,9 @@ pub fn table(
     alloc: Global,
     source: &mut MemSource<SampleArchive>,
 ) -> Option<PartTable<SampleArchive>> {
-    let Ok((number, manifest)) =
-        load::<SampleArchive, MemSource<SampleArchive>>(alloc, source, "mount-y")
-    else {
+    let Ok((number, manifest)) = load::<SampleArchive, MemSource<SampleArchive>>(
+        alloc, source, "mount-y",
+    ) else {
         return None;
     };
     resolve::<SampleArchive, MemSource<SampleArchive>>(alloc, source, number, &manifest).ok()
@@ -45,18 +45,22 @@ pub fn table(
 pub fn want_at<A: Archive>(table: &PartTable<A>, config: &Config, part: ByteRange) -> Option<Want>
     requires { IsConfig config.now }
     ensures file { IfSome result (λ w. 0 < length table.now.files) }
-    ensures key { IfSome result (λ w. (w.key.manifest ≡ table.now.number) × (w.key.file ≡ 0) × (w.key.region * config.now.region + w.sub.start ≡ part.start)) }
+    ensures key { IfSome result (IsOfPart table.now.number config.now.region part) }
     ensures wanted { IfSome result (λ w. IsWant config.now w) }
     ensures whole { IsTrue A.tells → IfSome result (λ w. HasLength (content A.blobs) config.now w) }
 {
-    if table.files() == 0 || part.end > table.length(0) || part.start >= part.end {
+    if table.files() == 0 {
+        return None;
+    }
+    let length = table.length(0);
+    if part.start >= part.end || part.end > length {
         return None;
     }
     if part.start / config.range as u64 != (part.end - 1) / config.range as u64 {
         return None;
     }
     let region = region_of(part.start, config.region);
-    let len = region_len(table.length(0), region, config.region);
+    let len = region_len(length, region, config.region);
     let base = region * config.region as u64;
     Some(Want {
         key: RegionKey {

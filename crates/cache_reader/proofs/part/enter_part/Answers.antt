@@ -1,4 +1,4 @@
-use Rattle.std.proofs.Common.{arith, ◌≡◌, ◌-◌, ◌∙◌, false, Err, Some, ap, sym, subst, refl}
+use Rattle.std.proofs.Common.{arith, ◌-◌, ◌∙◌, false, Err, Some, ap, sym, subst, refl}
 use Rattle.blob_parts.specs.Content.{content_places}
 use Rattle.cache_reader.proofs.Answered.{caused_by, caused_of, refused_of, on_answered, on_refused, piece_of}
 use Rattle.cache_reader.proofs.Joins.{door_step, source_step, worked_idle}
@@ -8,7 +8,6 @@ use Rattle.blob_parts.specs.Content.{content}
 use Rattle.cache_reader.proofs.Entries.{known_of, entry_answers, exactly_held, exactly_passed, exactly_entered_gone}
 use Rattle.blob_parts.specs.Tables.{file_length}
 use Rattle.cache_door.specs.declared.answers.Entered.TheVariants.{Held, NoRoom, Gone}
-use Rattle.cache_door.specs.Machine.{State}
 use Rattle.cache_reader.specs.declared.part.Last.{Last}
 use Rattle.cache_reader.specs.Parts.{read_setting}
 use Rattle.cache_reader.specs.Going.{moment}

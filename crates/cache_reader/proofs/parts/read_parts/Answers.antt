@@ -4,7 +4,6 @@ use Rattle.std.proofs.lemmas.Slice.{drop-put_mid}
 use Rattle.blob_parts.specs.Content.{content, slice_of}
 use Rattle.cache_reader.proofs.Answered.{caused_later}
 use Rattle.cache_reader.proofs.Together.{grown, parts_none, parts_more, counted_few, stopped, deeper, untouched_behind, filled_before}
-use Rattle.region_ranges.specs.declared.keys.Config.{Config}
 use Rattle.cache_reader.specs.Parts.{read_setting}
 use Rattle.cache_reader.specs.Going.{moment}
 use Rattle.cache_reader.specs.Reader.{files_seen}

@@ -5,8 +5,8 @@ use Rattle.mount_tool.proofs.write.write_all.Given as goal
 abbrev pub invariant-loop-done : goal.invariant-loop-done
 invariant-loop-done g l =
     (l.done ≤ length l.text)
-    × (g.K.Sink.faults l.fn.sink ≤ g.K.Sink.faults l.sink)
-    × (g.K.Sink.written l.sink ≡ behind (g.K.Sink.written l.fn.sink) (take l.done l.text))
+    × ((g.K.Sink.view l.fn.sink).faults ≤ (g.K.Sink.view l.sink).faults)
+    × ((g.K.Sink.view l.sink).written ≡ behind ((g.K.Sink.view l.fn.sink).written) (take l.done l.text))
 
 abbrev pub decreases-loop-done : goal.decreases-loop-done
 decreases-loop-done g l = length l.text - l.done

@@ -8,7 +8,7 @@ use Rattle.cache_checks.proofs.tests.cell.first.Goals as goal
 
 pub assign-requires-clause-whole : goal.assign-requires-clause-whole
 assign-requires-clause-whole g c = rw (c.new-cell.ensures, c.requires.size) (λ h.
-    let e = ap (λ (m : ℕ). length (content sample m 0)) (sym c.requires.table.0) ∙ c.length-length.ensures.told h in
+    let e = ap (λ (m : ℕ). length (content sample m 0)) (sym c.requires.table.0) ∙ c.length-length.ensures.whole h in
     c.region_len.ensures ∙ ap (λ (n : ℕ). min 8192 (n - 0)) (sym e) ∙ sym (has_length (content sample) 2 0 0 8192 (omega arith) (omega arith) (omega arith)))
 
 pub returns : goal.returns

@@ -39,8 +39,8 @@ assign-requires-clause-len g c =
     let e = assign_size (core_view i.config i.policy i.cells.items i.holds.items i.gone.items i.work) c.args.region c.index_mut-cell.result.now c.self.invariant (front_inside (core_view i.config i.policy i.cells.items i.holds.items i.gone.items i.work) c.self.invariant c.args.region f) c.index_mut-cell.ensures.value f in
     (w.len.0, omega (arith, w.len.1, e))
 
-pub assign-requires-clause-told : goal.assign-requires-clause-told
-assign-requires-clause-told g c t =
+pub assign-requires-clause-whole : goal.assign-requires-clause-whole
+assign-requires-clause-whole g c t =
     let i = c.self.inside in
     let P : CoreView → Type 0 = λ q. head q.policy.free ≡ Some c.args.region in
     let f = subst P (sym c.self.view_is) c.requires.front in

@@ -18,6 +18,7 @@ invariant_of-self c =
       count = rw (lists, length_lower goes f.lists.lists) c.self.invariant.count;
       free = c.self.invariant.free;
       leaving = c.self.invariant.leaving;
+      keys = c.self.invariant.keys;
     }
 
 pub returns-clause-policy : goal.returns-clause-policy

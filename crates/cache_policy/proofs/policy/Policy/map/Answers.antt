@@ -11,13 +11,13 @@ push_back-requires-clause-node c =
     let front = rw (← c.self.view_is) at c.requires.front in
     omega (arith, front_region (view_of c.self.inside) c.self.invariant.good c.args.region (tag_of c.args.key) front, c.self.invariant.nodes)
 
+pub give_key-requires-clause-region : goal.give_key-requires-clause-region
+give_key-requires-clause-region c =
+    let front = rw (← c.self.view_is) at c.requires.front in
+    front_region (view_of c.self.inside) c.self.invariant.good c.args.region (tag_of c.args.key) front
+
 pub index_mut-requires : goal.index_mut-requires
 index_mut-requires c =
-    let front = rw (← c.self.view_is) at c.requires.front in
-    omega (arith, front_region (view_of c.self.inside) c.self.invariant.good c.args.region (tag_of c.args.key) front, c.self.inside.tags.ok.0)
-
-pub index_mut-requires-2 : goal.index_mut-requires-2
-index_mut-requires-2 c =
     let front = rw (← c.self.view_is) at c.requires.front in
     omega (arith, front_region (view_of c.self.inside) c.self.invariant.good c.args.region (tag_of c.args.key) front, c.self.invariant.good.last_accesses, c.self.inside.last_accesses.ok.0)
 
@@ -27,18 +27,19 @@ invariant_of-self c =
     let front = rw (← c.self.view_is) at c.requires.front in
     let new = rw (← c.self.view_is) at c.requires.new in
     record {
-      good = rw (c.remove.ensures.by_index.2, c.push_back.ensures.lists, c.pack.ensures.value) (good_map (view_of f) c.self.invariant.good c.args.region (tag_of c.args.key) front c.args.now new);
-      nodes = rw (c.push_back.ensures.lists, length-set f.tags.items c.args.region (Some c.pack.result)) c.self.invariant.nodes;
+      good = rw (c.remove.ensures.by_index.2, c.push_back.ensures.lists, c.give_key.ensures.tags, c.pack.ensures.value) (good_map (view_of f) c.self.invariant.good c.args.region (tag_of c.args.key) front c.args.now new);
+      nodes = rw (c.push_back.ensures.lists, c.give_key.ensures.tags, length-set f.tags.items c.args.region (Some c.pack.result)) c.self.invariant.nodes;
       count = c.push_back.ensures.count ∙ c.self.invariant.count;
-      free = rw (length-set f.tags.items c.args.region (Some c.pack.result)) (omega (arith, c.remove.ensures.capacity, c.self.invariant.free));
-      leaving = rw (length-set f.tags.items c.args.region (Some c.pack.result)) c.self.invariant.leaving;
+      free = rw (c.give_key.ensures.tags, length-set f.tags.items c.args.region (Some c.pack.result)) (omega (arith, c.remove.ensures.capacity, c.self.invariant.free));
+      leaving = rw (c.give_key.ensures.tags, length-set f.tags.items c.args.region (Some c.pack.result)) c.self.invariant.leaving;
+      keys = c.give_key.ensures.index;
     }
 
 pub returns-clause-tags : goal.returns-clause-tags
 returns-clause-tags c j =
     let f = c.self.inside in
     let front = rw (← c.self.view_is) at c.requires.front in
-    rw (← c.self.view_is, c.pack.ensures.value) (set_at f.tags.items c.args.region j (Some (tag_of c.args.key)) (front_region (view_of f) c.self.invariant.good c.args.region (tag_of c.args.key) front))
+    rw (← c.self.view_is, c.give_key.ensures.tags, c.pack.ensures.value) (set_at f.tags.items c.args.region j (Some (tag_of c.args.key)) (front_region (view_of f) c.self.invariant.good c.args.region (tag_of c.args.key) front))
 
 pub returns-clause-count : goal.returns-clause-count
-returns-clause-count c = rw (← c.self.view_is) (length-set c.self.inside.tags.items c.args.region (Some c.pack.result))
+returns-clause-count c = rw (← c.self.view_is, c.give_key.ensures.tags) (length-set c.self.inside.tags.items c.args.region (Some c.pack.result))

@@ -5,6 +5,7 @@ use Rattle.freq_lists.specs.Lists.{ListsView}
 use Rattle.std.proofs.lemmas.List.{length-replicate}
 use Rattle.cache_policy.proofs.Good.{good_made}
 use Rattle.cache_policy.proofs.Places.{range_push}
+use Rattle.cache_policy.proofs.Keyed.{index_new}
 use Rattle.cache_policy.proofs.policy.Policy.new.Goals as goal
 
 pub invariant_of-result : goal.invariant_of-result
@@ -27,6 +28,7 @@ invariant_of-result c =
       count = ap (λ (v : ListsView). length v.lists) made ∙ length-replicate {A = List ℕ} f.max_freq [];
       free = room;
       leaving = rest;
+      keys = index_new c.in_ok-new-2.field-0 f.regions tags none c.in_ok-new-2.ensures.empty c.in_ok-new-2.ensures.len c.in_ok-new-2.ensures.most;
     }
 
 pub loop-region-preserved : goal.loop-region-preserved

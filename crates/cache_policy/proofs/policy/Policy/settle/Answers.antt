@@ -25,6 +25,7 @@ invariant_of-self c =
       count = c.self.invariant.count;
       free = omega (arith, c.in-Ok.ensures.capacity, c.self.invariant.free);
       leaving = omega (arith, c.retain.ensures.capacity, c.self.invariant.leaving);
+      keys = c.self.invariant.keys;
     }
 
 pub returns-clause-policy : goal.returns-clause-policy

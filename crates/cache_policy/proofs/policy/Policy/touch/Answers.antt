@@ -19,4 +19,5 @@ invariant_of-self c =
       count = c.push_back.ensures.count ∙ c.unlink.ensures.count ∙ c.self.invariant.count;
       free = c.self.invariant.free;
       leaving = c.self.invariant.leaving;
+      keys = c.self.invariant.keys;
     }

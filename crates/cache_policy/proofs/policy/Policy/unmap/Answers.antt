@@ -18,18 +18,22 @@ invariant_of-self c =
     let f = c.self.inside in
     let is = rw (← c.self.view_is) at c.requires in
     record {
-      good = rw (c.in-Ok.ensures.items, c.unlink.ensures.lists) (good_unmap (view_of f) c.self.invariant.good c.args.region is c.saturating_add-self-inside.result);
-      nodes = rw (c.unlink.ensures.lists, length-set f.tags.items c.args.region None) c.self.invariant.nodes;
+      good = rw (c.in-Ok.ensures.items, c.unlink.ensures.lists, c.forget_key.ensures.tags) (good_unmap (view_of f) c.self.invariant.good c.args.region is c.saturating_add-self-inside.result);
+      nodes = rw (c.unlink.ensures.lists, c.forget_key.ensures.tags, length-set f.tags.items c.args.region None) c.self.invariant.nodes;
       count = c.unlink.ensures.count ∙ c.self.invariant.count;
-      free = rw (length-set f.tags.items c.args.region None) (omega (arith, c.in-Ok.ensures.capacity, c.self.invariant.free));
-      leaving = rw (length-set f.tags.items c.args.region None) c.self.invariant.leaving;
+      free = rw (c.forget_key.ensures.tags, length-set f.tags.items c.args.region None) (omega (arith, c.in-Ok.ensures.capacity, c.self.invariant.free));
+      leaving = rw (c.forget_key.ensures.tags, length-set f.tags.items c.args.region None) c.self.invariant.leaving;
+      keys = c.forget_key.ensures.index;
     }
 
 pub returns-clause-tags : goal.returns-clause-tags
 returns-clause-tags c j =
     let f = c.self.inside in
     let is = rw (← c.self.view_is) at c.requires in
-    rw (← c.self.view_is) (set_at f.tags.items c.args.region j None (region_is (view_of f) c.self.invariant.good c.args.region is))
+    rw (← c.self.view_is, c.forget_key.ensures.tags) (set_at f.tags.items c.args.region j None (region_is (view_of f) c.self.invariant.good c.args.region is))
 
 pub returns-clause-count : goal.returns-clause-count
-returns-clause-count c = rw (← c.self.view_is) (length-set c.self.inside.tags.items c.args.region None)
+returns-clause-count c = rw (← c.self.view_is, c.forget_key.ensures.tags) (length-set c.self.inside.tags.items c.args.region None)
+
+pub forget_key-requires-clause-apart : goal.forget_key-requires-clause-apart
+forget_key-requires-clause-apart c = c.self.invariant.good.keys

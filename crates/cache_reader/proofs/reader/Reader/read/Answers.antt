@@ -18,7 +18,7 @@ returns-in-Ok-clause-goes g c = (
   c.read_parts-answer.ensures.stays,
   c.read_parts-answer.ensures.hold,
   read_calmly _ _ c.args.file c.args.at (length c.args.out.now) _ false _ _ _ _ _ _ c.requires.file c.requires.inside c.read_parts-answer.ensures.reached
-  (rw c.new-report.ensures at c.in-Ok.ensures.part) c.add.ensures (rw c.new-report.ensures at c.in-Ok.ensures.exact) (rw c.new-report.ensures at c.in-Ok.ensures.entries) refl,
+      (rw c.new-report.ensures at c.in-Ok.ensures.part) c.add.ensures (rw c.new-report.ensures at c.in-Ok.ensures.exact) (rw c.new-report.ensures at c.in-Ok.ensures.entries) refl,
 )
 
 pub returns-after-self-clause-goes : goal.returns-after-self-clause-goes
@@ -70,7 +70,7 @@ returns-after-self-clause-cause g c =
     let marks : c.if-self.self ≡ (c.args.self.now.out_of_memory || is_memory result) = search rules in
     let own = rw c.new-report.ensures at c.read_parts-answer.ensures.part in
     let through = read_through l x.door.actor c.args.file c.args.at (length c.args.out.now) _ (is_memory c.read_parts-answer.result) c.args.self.now.out_of_memory v.total _ w.total x y c.requires.file c.requires.inside c.read_parts-answer.ensures.reached
-        own c.add.ensures (rw c.new-report.ensures at c.read_parts-answer.ensures.exact) (rw c.new-report.ensures at c.read_parts-answer.ensures.entries) in
+    own c.add.ensures (rw c.new-report.ensures at c.read_parts-answer.ensures.exact) (rw c.new-report.ensures at c.read_parts-answer.ensures.entries) in
     let same : (c.args.self.now.out_of_memory || is_memory c.read_parts-answer.result) ≡ c.if-self.self = search rules in
     let files = files_kept l l x.door.actor (read ∷ []) v.total w.total v.out_of_memory w.out_of_memory x y refl (g.met.D.CacheDoor.later _ _ c.read_parts-answer.ensures.stays) (rw same at through) in
     read_cause result (files_seen l x v.out_of_memory) (files_seen l y w.out_of_memory) files (caused_marked (Some c.in-Err.e) l x y v.out_of_memory w.out_of_memory c.in-Err.ensures.cause) marks

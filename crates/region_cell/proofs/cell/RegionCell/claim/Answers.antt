@@ -1,4 +1,4 @@
-use Rattle.std.proofs.Common.{arith, ◌≡◌, ◌≤◌, ◌<◌, ◌∙◌, ap, ℕ, inl, inr, Fits, w32}
+use Rattle.std.proofs.Common.{arith, ◌∙◌, ap, ℕ, inl, inr}
 use Rattle.region_ranges.specs.Ranges.{aligned}
 use Rattle.region_cell.proofs.Kept.{kept_claim, kept_spare, by_answer}
 use Rattle.region_cell.proofs.cell.RegionCell.claim.Goals as goal

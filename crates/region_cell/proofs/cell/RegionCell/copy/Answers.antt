@@ -1,5 +1,4 @@
-use Rattle.std.proofs.Common.{arith, ◌≡◌, ◌≤◌, ◌<◌, ◌-◌, ◌+◌, ◌∙◌, sym, ap, ℕ, refl, Fits, w32}
-use Rattle.std.specs.Prelude.{IsTrue, OnOk, IfSome, take, drop}
+use Rattle.std.proofs.Common.{arith, ◌∙◌, sym, refl}
 use Rattle.sparse_tracker.specs.declared.status.Status.TheVariants as status_of
 use Rattle.sparse_tracker.specs.ByteStates.{ticket_of}
 use Rattle.region_cell.proofs.Kept.{copied, copied_bytes}

@@ -1,4 +1,3 @@
-use Rattle.std.proofs.Common.{◌≡◌}
 use Rattle.region_cell.proofs.Kept.{kept_leave}
 use Rattle.region_cell.proofs.cell.RegionCell.leave.Goals as goal
 

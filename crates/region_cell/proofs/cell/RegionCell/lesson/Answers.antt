@@ -1,4 +1,3 @@
-use Rattle.std.proofs.Common.{◌≡◌}
 use Rattle.region_cell.proofs.Statuses.{known}
 use Rattle.region_cell.proofs.cell.RegionCell.lesson.Goals as goal
 

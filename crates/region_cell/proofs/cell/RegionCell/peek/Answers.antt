@@ -1,5 +1,5 @@
-use Rattle.std.proofs.Common.{arith, ◌≡◌, ◌≤◌, ◌<◌, ◌-◌, ◌∙◌, sym, ap, ℕ}
-use Rattle.std.specs.Prelude.{IsTrue, OnOk, take, drop}
+use Rattle.std.proofs.Common.{◌∙◌, sym, ap, ℕ}
+use Rattle.std.specs.Prelude.{take, drop}
 use Rattle.region_cell.proofs.Kept.{read_kept, ok_then, ok_under}
 use Rattle.region_cell.proofs.cell.RegionCell.peek.Goals as goal
 
@@ -9,4 +9,4 @@ returns-clause-content g c =
     let all = sym c.has_all.ensures ∙ c.if-not-has_all.false in
     rw (← c.self.view_is) (
     ok_then c.get.result (λ e h n. e n ∙ ap (λ (k : ℕ). take k (drop c.args.sub.start (g.F.Frame.view c.self.inside.frame).bytes)) c.requires.len ∙ read_kept _ _ _ c.self.invariant.3 c.args.sub r.0 r.1 all h n)
-    (ok_under c.get.result c.get.ensures.got))
+    (ok_under _ c.get.result c.get.ensures.got))

@@ -1,7 +1,5 @@
-use Rattle.std.proofs.Common.{arith, ◌≡◌, ◌≤◌, ◌<◌, ◌-◌, ◌+◌, ◌%◌, ◌∙◌, sym, ap, ℕ, refl, Fits, w32, length, List}
-use Rattle.std.specs.Prelude.{IsTrue, OnOk, OnErr, IfSome, take, drop}
-use Rattle.cache_outside.specs.Frames.{put_at, SameOutside}
-use Rattle.sparse_tracker.specs.ByteStates.{gap_of, progress, Tracker, TrackerView}
+use Rattle.std.proofs.Common.{arith, ◌≡◌, ◌+◌, ◌%◌, ◌∙◌, ap, ℕ, length}
+use Rattle.sparse_tracker.specs.ByteStates.{progress, Tracker, TrackerView}
 use Rattle.region_cell.specs.Cells.{Region, tag_at}
 use Rattle.region_cell.proofs.Kept.{put_of, kept_stored, kept_unstored, err_any, outside_as, put_as}
 use Rattle.region_cell.proofs.cell.RegionCell.store.Goals as goal
@@ -56,7 +54,7 @@ invariant_of-self-2 g c =
       i.0,
       c.put.ensures.frame.size ∙ i.1,
       i.2,
-      kept_stored _ _ _ i.3 c.lesson.ensures.tracker c.args.gap c.args.piece.now p.fit _ _ c.put.ensures.frame.size c.put.ensures.frame.tells (g.met.F.Frame.whole c.self.inside.frame) c.bytes-bytes.ensures.told (λ n. put_as _ _ _ _ _ _ p.at c.bytes-bytes.ensures.value (c.in_ok-put.ensures.put n)),
+      kept_stored _ _ _ i.3 c.lesson.ensures.tracker c.args.gap c.args.piece.now p.fit _ _ c.put.ensures.frame.size c.put.ensures.frame.tells (g.met.F.Frame.whole c.self.inside.frame) c.bytes-bytes.ensures.content (λ n. put_as _ _ _ _ _ _ p.at c.bytes-bytes.ensures.value (c.in_ok-put.ensures.put n)),
     )
 
 pub returns-clause-ok : goal.returns-clause-ok

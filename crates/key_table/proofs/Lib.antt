@@ -1,0 +1,5 @@
+pub mod Rounds
+pub mod Entries
+pub mod Walks
+pub mod Gaps
+pub mod Calls

@@ -1,7 +1,0 @@
-use Rattle.std.proofs.Common.{◌≡◌, ◌∙◌, sym, ap, List, ℕ, ◌++◌, ◌∷◌, []}
-use Rattle.std.specs.Prelude.{◌%◌}
-use Rattle.mount_tool.proofs.Counted.{counting_push}
-use Rattle.mount_tool.proofs.tests.counting.Goals as goal
-
-pub loop-i-preserved : goal.loop-i-preserved
-loop-i-preserved c = c.in_ok-push.ensures.ok ∙ ap (λ (t : List ℕ). t ++ (c.loop-i.i % 251) ∷ []) c.loop-i.invariant ∙ sym (counting_push c.loop-i.i)
