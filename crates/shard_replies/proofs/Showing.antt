@@ -8,7 +8,7 @@ use Rattle.std.proofs.lemmas.List.Elements.{All-get_or}
 use Rattle.mount_manifest.specs.declared.record.Segment.{Segment}
 use Rattle.shard_search.specs.Answers.{IsHitOf, pair_of}
 use Rattle.shard_search.specs.declared.hits.Hit.{Hit}
-use Rattle.shard_replies.specs.ExpectedReplies.{shown, segment_name}
+use Rattle.shard_replies.specs.ExpectedReplies.{shown}
 
 hit_of : (segments : List Segment) (hits : List Hit) (i : ℕ) (h : Hit) → All (IsHitOf segments) hits → slice_get hits i ≡ Some h → IsHitOf segments h
 hit_of segments hits i h all is = subst (IsHitOf segments) (get_or_from_slice_get hits i h h is) (All-get_or (IsHitOf segments) hits i h (slice_get_within hits i h is) all)

@@ -1,5 +1,5 @@
 -- All that was asked is taken, whatever is answered.
-use Rattle.std.proofs.Common.{ℕ, ◌≡◌, sym, subst, List, length, take}
+use Rattle.std.proofs.Common.{ℕ, sym, subst, List, length, take}
 use Rattle.std.proofs.Math.Seq.{take-length}
 use Rattle.std.specs.Prelude.{Option, Result, Ok, Err}
 use Rattle.blob_parts.specs.Takes.{Took, Takes}

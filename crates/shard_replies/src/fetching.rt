@@ -28,9 +28,9 @@ fn fields_reply(alloc: Global, fields: &[StoredField]) -> Result<Reply, AllocErr
 }
 
 /// The reply to a `fetch`: the stored fields of document `doc` of a segment. `no file` where the manifest has no such
-/// segment or the segment has no file of stored fields; `no doc` where the number is not below the segment's count; the
-/// first bad file, that of the stored fields before that of the live documents; `no doc` where the document is not live.
-/// The bytes are those of the manifest's files.
+/// segment or the segment has no file of stored fields; `no doc` where the number is not below the segment's count;
+/// the first bad file, that of the stored fields before that of the live documents; `no doc` where the document is not
+/// live. The bytes are those of the manifest's files.
 pub fn fetch_reply<B: FileBytes>(
     alloc: Global,
     bytes: &mut B,
@@ -39,7 +39,8 @@ pub fn fetch_reply<B: FileBytes>(
     doc: u32,
 ) -> Result<Reply, BytesError>
     requires { length shard.now.files ≤ (B.view bytes.old).count }
-    ensures reply { IsTrue (B.view bytes.old).tells → IfOk result (λ r. r ≡ fetch_reply (B.view bytes.old).bytes shard.now segment.now doc) }
+    ensures reply { IsTrue (B.view bytes.old).tells
+        → IfOk result (λ r. r ≡ fetch_reply (B.view bytes.old).bytes shard.now segment.now doc) }
     ensures goes { GoesOn B.goes_by bytes.old bytes.new }
     ensures cause { HasBytesCause (B.view bytes.old) (B.view bytes.new) (refusal result) }
 {

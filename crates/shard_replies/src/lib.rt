@@ -1,4 +1,4 @@
-// The replies to commands on a mounted shard, over the bytes of its whole files, and the loading of a mount.
+//! The replies to commands on a mounted shard, over the bytes of its whole files, and the loading of a mount.
 #![tactic(auto)]
 
 mod fetching;

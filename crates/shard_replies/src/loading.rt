@@ -58,7 +58,8 @@ fn with_parts<A: Archive, S: BlobSource<A>>(
 ) -> Result<(u32, Manifest, PartTable<A>), MountError>
     requires small { number < 65536 }
     requires whole { IsTrue A.tells → manifest_at A.blobs number ≡ Ok manifest }
-    ensures fits { IsTrue A.tells → GivesMount result (fitting number manifest (part_refusal A.blobs manifest.files)) }
+    ensures fits { IsTrue A.tells
+        → GivesMount result (fitting number manifest (part_refusal A.blobs manifest.files)) }
     ensures manifest { IfOk result (λ m. m.1 ≡ manifest) }
     ensures number { IfOk result (λ m. (m.0 ≡ number) × (m.2.number ≡ number)) }
     ensures files { IfOk result (λ m. lengths_of m.2.files ≡ map (λ f. f.length) manifest.files) }
@@ -78,12 +79,13 @@ fn with_parts<A: Archive, S: BlobSource<A>>(
     }
 }
 
-/// Loads what a mount of the manifest with this name reads: the manifest's number among the archive's, the manifest, and
-/// where the parts of its files are.
+/// Loads what a mount of the manifest with this name reads: the manifest's number among the archive's, the manifest,
+/// and where the parts of its files are.
 ///
-/// The first of these that holds is refused, with the text of its reply: there is no such manifest; its text is refused,
-/// with the first cause; the blob of a part is missing, or, where none is, has another size, with the first such part in
-/// the order of files and parts. `Fault` comes only where the source's count of failures rose in this call.
+/// The first of these that holds is refused, with the text of its reply: there is no such manifest; its text is
+/// refused, with the first cause; the blob of a part is missing, or, where none is, has another size, with the first
+/// such part in the order of files and parts. `Fault` comes only where the source's count of failures rose in this
+/// call.
 pub fn load_mount<A: Archive, S: BlobSource<A>>(
     alloc: Global,
     source: &mut S,
@@ -95,7 +97,8 @@ pub fn load_mount<A: Archive, S: BlobSource<A>>(
     ensures small { IfOk result (λ m. m.0 < 65536) }
     ensures files { IfOk result (λ m. lengths_of m.2.files ≡ map (λ f. f.length) m.1.files) }
     ensures source { SourceLater (S.view source.old) (S.view source.new) (IsErrOf result Fault) }
-    ensures reads { IsTrue A.tells → Takes (S.view source.old).reads (S.view source.new).reads (asked A.blobs name.now) result }
+    ensures reads { IsTrue A.tells
+        → Takes (S.view source.old).reads (S.view source.new).reads (asked A.blobs name.now) result }
 {
     match load::<A, S>(alloc, source, name.as_str()) {
         Ok((number, manifest)) => with_parts::<A, S>(alloc, source, number, manifest),

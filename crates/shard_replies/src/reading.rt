@@ -48,7 +48,8 @@ pub fn read_reply<B: FileBytes>(
     len: u32,
 ) -> Result<Reply, BytesError>
     requires { length shard.now.files ≤ (B.view bytes.old).count }
-    ensures reply { IsTrue (B.view bytes.old).tells → IfOk result (λ r. r ≡ read_reply (B.view bytes.old).bytes shard.now file.now at len) }
+    ensures reply { IsTrue (B.view bytes.old).tells
+        → IfOk result (λ r. r ≡ read_reply (B.view bytes.old).bytes shard.now file.now at len) }
     ensures goes { GoesOn B.goes_by bytes.old bytes.new }
     ensures cause { HasBytesCause (B.view bytes.old) (B.view bytes.new) (refusal result) }
 {

@@ -31,7 +31,8 @@ fn shown_of(alloc: Global, shard: &Manifest, hits: &HitList) -> Result<Shown, Al
 
 fn hits_reply(alloc: Global, shard: &Manifest, hits: &Hits) -> Result<Reply, AllocError>
     requires { All (IsHitOf shard.now.segments) hits.now.list }
-    ensures { IfOk result (λ r. r ≡ reply.Hits hits.now.total (map (shown shard.now.segments) (map pair_of hits.now.list))) }
+    ensures { IfOk result
+        (λ r. r ≡ reply.Hits hits.now.total (map (shown shard.now.segments) (map pair_of hits.now.list))) }
 {
     Ok(Reply::Hits {
         total: hits.total,
@@ -39,8 +40,8 @@ fn hits_reply(alloc: Global, shard: &Manifest, hits: &Hits) -> Result<Reply, All
     })
 }
 
-/// The reply to a search for what a query asks: how many documents match, and the first `size` of them; or the first bad
-/// file. The shelf is one that belongs to this mount, and the bytes are those of the manifest's files.
+/// The reply to a search for what a query asks: how many documents match, and the first `size` of them; or the first
+/// bad file. The shelf is one that belongs to this mount, and the bytes are those of the manifest's files.
 pub fn query_reply<B: FileBytes>(
     alloc: Global,
     bytes: &mut B,
@@ -50,7 +51,8 @@ pub fn query_reply<B: FileBytes>(
     query: &Query,
 ) -> Result<Reply, BytesError>
     requires { length shard.now.files ≤ (B.view bytes.old).count }
-    ensures reply { IsTrue (B.view bytes.old).tells → IfOk result (λ r. r ≡ tree_reply (B.view bytes.old).bytes shard.now size (tree_of query.now)) }
+    ensures reply { IsTrue (B.view bytes.old).tells
+        → IfOk result (λ r. r ≡ tree_reply (B.view bytes.old).bytes shard.now size (tree_of query.now)) }
     ensures goes { GoesOn B.goes_by bytes.old bytes.new }
     ensures cause { HasBytesCause (B.view bytes.old) (B.view bytes.new) (refusal result) }
 {
@@ -71,7 +73,8 @@ pub fn search_reply<B: FileBytes>(
     text: &[u8],
 ) -> Result<Reply, BytesError>
     requires { length shard.now.files ≤ (B.view bytes.old).count }
-    ensures reply { IsTrue (B.view bytes.old).tells → IfOk result (λ r. r ≡ search_reply (B.view bytes.old).bytes shard.now size text.now) }
+    ensures reply { IsTrue (B.view bytes.old).tells
+        → IfOk result (λ r. r ≡ search_reply (B.view bytes.old).bytes shard.now size text.now) }
     ensures goes { GoesOn B.goes_by bytes.old bytes.new }
     ensures cause { HasBytesCause (B.view bytes.old) (B.view bytes.new) (refusal result) }
 {
