@@ -228,6 +228,15 @@ fn sources_that_fail(rt: HostRuntime) -> Result<(), Fail> {
 
 /// As many parts as a manifest may have, and a read of more than 4,096 bytes. Built by `rt test` it runs in a third of
 /// a second; `rt try` gives up on it.
+/// Fills `out` with the last bytes of the first file, and says whether it did.
+fn last_bytes(source: &mut OneByteParts, table: &PartTable<Untold>, out: &mut [u8]) -> bool {
+    if table.files() == 0 || table.length(0) < out.len() as u64 {
+        return false;
+    }
+    let at = table.length(0) - out.len() as u64;
+    read_into::<Untold, OneByteParts>(source, table, 0, at, out).is_ok()
+}
+
 #[test]
 fn most_parts(rt: HostRuntime) -> Result<(), Fail> {
     let alloc = rt.alloc();
@@ -244,11 +253,7 @@ fn most_parts(rt: HostRuntime) -> Result<(), Fail> {
     };
     assert!(rt; table.files() > 0 && table.length(0) == 1_048_576);
     let mut out = vec![in alloc; 0; 5000]?;
-    let read = read_into::<Untold, OneByteParts>(&mut source, &table, 0, 1_043_576, &mut out);
-    assert_eq!(rt; read, Ok(()));
-    assert!(rt; out.len() == 5000);
-    let (first, last) = (&out[..3], &out[4997..]);
-    assert_eq!(rt; first, [120, 121, 122].as_slice());
-    assert_eq!(rt; last, [253, 254, 255].as_slice());
+    assert!(rt; last_bytes(&mut source, &table, &mut out));
+    assert!(rt; out.starts_with(&[120, 121, 122]) && out.ends_with(&[253, 254, 255]));
     Ok(())
 }

@@ -1,5 +1,5 @@
 -- What is known of a cell's states step by step, and what the calls make of them.
-use Rattle.std.proofs.Common.{arith, ◌≡◌, ◌<◌, ◌≤◌, ◌+◌, ◌-◌, ◌*◌, ◌/◌, ℕ, List, length, sym, ◌∙◌, ap, refl, Some, true, false}
+use Rattle.std.proofs.Common.{arith, ◌≡◌, ◌<◌, ◌≤◌, ◌+◌, ◌-◌, ◌*◌, ◌/◌, ℕ, List, length, sym, ◌∙◌, ap, subst, refl, Option, Some, true, false}
 use Rattle.std.specs.Prelude.{IsSome, IfSome}
 use Rattle.std.proofs.Math.Nat.{div-eq_of_lt}
 use Rattle.region_ranges.specs.declared.ranges.ByteRange.{ByteRange}
@@ -44,7 +44,9 @@ module _ (s : Region) (n : CellMetadata) (a : IsAt s n) where
   pub stored : (u : Region) (x y : CellView) (g : ℕ) (piece : List ℕ) (o : OpenGap) → x.metadata ≡ n → gap_of g s.tracker ≡ Some o → IfSome (gap_of g x.metadata.region.tracker) (Stored g piece x y) → progress g (o.upto + length piece) s ≡ u → FrameStays x.metadata.frame y.metadata.frame → y.metadata.range ≡ x.metadata.range → IsAt u y.metadata
   stored u x y g piece o w e i h f r =
       let region : x.metadata.region ≡ s = ap (λ (m : CellMetadata). m.region) w ∙ a.region in
-      let q : Stored g piece x y o = rw (region, e) at i in
+      let gap : gap_of g x.metadata.region.tracker ≡ Some o = ap (λ (c : Region). gap_of g c.tracker) region ∙ e in
+      let P : Option OpenGap → Type 0 = λ k. IfSome k (Stored g piece x y) in
+      let q : Stored g piece x y o = subst P gap i in
       record {
         region = q.region ∙ ap (λ (c : Region). progress g (o.upto + length piece) c) region ∙ h;
         size = f.size ∙ ap (λ (m : CellMetadata). m.frame.size) w ∙ a.size;

@@ -1,5 +1,5 @@
 use Rattle.blob_checks.specs.Example.{few_manifests}
 use Rattle.blob_checks.proofs.example.source.Goals as goal
 
-pub new-requires-2-clause-few_manifests : goal.new-requires-2-clause-few_manifests
-new-requires-2-clause-few_manifests c = rw c.in_ok-blobs.ensures few_manifests
+pub new-requires-clause-few_manifests : goal.new-requires-clause-few_manifests
+new-requires-clause-few_manifests c = rw c.in_ok-blobs.ensures few_manifests
