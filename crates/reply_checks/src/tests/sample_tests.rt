@@ -2,6 +2,8 @@
 use super::{Ask, answer, source_of};
 use cache_outside::SourceCall;
 use sample_archive::sample_blobs;
+use std::alloc::Global;
+use std::process::Abort;
 use std::test::Fail;
 
 const FOX: &str = "{\"term\":{\"body\":\"fox\"}}";
@@ -64,8 +66,28 @@ fn replies_to_commands(rt: HostRuntime) -> Result<(), Fail> {
     Ok(())
 }
 
-/// Each command with the n-th call of a kind failing: the reply is `fault`, or the one without a failure where fewer
-/// calls are made.
+/// From which n on the command makes no n-th call of this kind, where its reply is the wanted one; until then that call
+/// fails and the reply is `fault`.
+fn calls_made(
+    rt: &impl Abort,
+    alloc: Global,
+    call: SourceCall,
+    row: (&'static str, Ask, &'static str),
+) -> Result<u64, Fail> {
+    let (manifest, ask, wanted) = row;
+    for n in 1..40 {
+        let blobs = sample_blobs(alloc)?;
+        let fails = vec![in alloc; (call, n)]?;
+        let mut source = source_of(rt, alloc, blobs, 65_536, fails);
+        let text = answer(rt, alloc, &mut source, manifest, ask)?;
+        if text.as_bytes() != b"fault".as_slice() {
+            assert!(rt; text.as_bytes() == wanted.as_bytes());
+            return Ok(n);
+        }
+    }
+    Ok(40)
+}
+
 #[test]
 fn marks_a_failing_source(rt: HostRuntime) -> Result<(), Fail> {
     let alloc = rt.alloc();
@@ -75,19 +97,8 @@ fn marks_a_failing_source(rt: HostRuntime) -> Result<(), Fail> {
         SourceCall::Size,
         SourceCall::Read,
     ] {
-        for (manifest, ask, wanted) in rows() {
-            let mut n = 1;
-            let mut failed = true;
-            while failed && n < 40 {
-                let blobs = sample_blobs(alloc)?;
-                let fails = vec![in alloc; (call, n)]?;
-                let mut source = source_of(&rt, alloc, blobs, 65_536, fails);
-                let text = answer(&rt, alloc, &mut source, manifest, ask)?;
-                failed = text.as_bytes() == b"fault".as_slice();
-                assert!(rt; failed || text.as_bytes() == wanted.as_bytes());
-                n += 1;
-            }
-            assert!(rt; !failed);
+        for row in rows() {
+            assert!(rt; calls_made(&rt, alloc, call, row)? < 40);
         }
     }
     Ok(())
