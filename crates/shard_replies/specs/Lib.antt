@@ -1,2 +1,0 @@
-pub mod ExpectedReplies
-pub mod Answers
