@@ -42,8 +42,8 @@ LoadTakes before after places (Err e) = RefusedTakes before after places e
 
 -- a text is judged by what a manifest text says, want of memory aside; its manifest comes under number m
 abbrev pub Judges : ℕ → Result (ℕ × Facts) LoadError → Result Facts ManifestError → Type 0
-Judges m (Ok loaded) wanted = (loaded.0 ≡ m) × (wanted ≡ Ok loaded.1)
-Judges m (Err (Manifest e)) wanted = wanted ≡ Err e
-Judges m (Err NoMemory) wanted = Unit {0}
-Judges m (Err Missing) wanted = ⊥
-Judges m (Err Fault) wanted = ⊥
+Judges m (Ok loaded) expected = (loaded.0 ≡ m) × (expected ≡ Ok loaded.1)
+Judges m (Err (Manifest e)) expected = expected ≡ Err e
+Judges m (Err NoMemory) expected = Unit {0}
+Judges m (Err Missing) expected = ⊥
+Judges m (Err Fault) expected = ⊥

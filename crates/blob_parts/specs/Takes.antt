@@ -1,6 +1,6 @@
 -- What a call takes from a source, as places of single bytes.
 use Rattle.std.specs.Prelude.{ℕ, ◌≡◌, ◌≤◌, List, ◌++◌, take, Option, Some, None, Result, Ok, Err}
-use Rattle.cache_outside.specs.Causes.{Rose}
+use Rattle.byte_text.specs.Counts.{Rose}
 use Rattle.cache_outside.specs.Sources.{SourceView}
 use Rattle.blob_parts.specs.Content.{spread}
 

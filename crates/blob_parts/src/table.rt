@@ -34,7 +34,8 @@ impl<A: Archive> Model for PartTable<A> {
 
     ghost view = { λ t. record { number = t.number; files = map parts_in t.entries.items } };
 
-    ghost invariant = { λ t. IsTable A.tells A.blobs (record { number = t.number; files = map parts_in t.entries.items }) };
+    ghost invariant = { λ t.
+        IsTable A.tells A.blobs (record { number = t.number; files = map parts_in t.entries.items }) };
 }
 
 /// Where a byte of a file is: its blob, its place there, and how many bytes of the part begin there.
@@ -51,7 +52,8 @@ fn place_in(entry: &FileEntry, at: u64) -> Place
     requires inside { at < entry.now.length }
     ensures blob { slice_get entry.now.blobs.items (at / entry.now.part_size) ≡ Some result.blob }
     ensures at { result.at ≡ at % entry.now.part_size }
-    ensures room { result.room ≡ part_length entry.now.length entry.now.part_size (at / entry.now.part_size) - result.at }
+    ensures room { result.room
+        ≡ part_length entry.now.length entry.now.part_size (at / entry.now.part_size) - result.at }
     ensures some { 0 < result.room }
     ensures whole { (at / entry.now.part_size) * entry.now.part_size + result.at ≡ at }
 {

@@ -8,7 +8,7 @@ use Rattle.sparse_tracker.specs.declared.status.Status.TheVariants as status_of
 use Rattle.sparse_tracker.specs.declared.tickets.Ticket.{Ticket}
 use Rattle.sparse_tracker.specs.ByteStates.{Tracker, ticket_of, byte_states_in, is_absent, is_present, status}
 use Rattle.sparse_tracker.specs.Weights.{total}
-use Rattle.cache_outside.specs.Causes.{Rose}
+use Rattle.byte_text.specs.Counts.{Rose}
 use Rattle.blob_parts.specs.Content.{slice_of}
 use Rattle.region_cell.specs.Cells.{CellView, FrameStays, Region, with_frame, new_cell, region_bytes, CopyAnswer, TicketBytes, TicketContent, NeverOpen}
 use Rattle.region_cell.proofs.Statuses.{ready_is}

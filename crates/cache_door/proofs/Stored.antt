@@ -9,7 +9,7 @@ use Rattle.sparse_tracker.specs.declared.gaps.OpenGap.{OpenGap}
 use Rattle.sparse_tracker.specs.ByteStates.{pending, present, gap_of}
 use Rattle.sparse_tracker.specs.Weights.{TicketWeights, GapWeights}
 use Rattle.sparse_tracker.specs.Weights.{total}
-use Rattle.cache_outside.specs.Causes.{Rose}
+use Rattle.byte_text.specs.Counts.{Rose}
 use Rattle.cache_outside.specs.Frames.{put_at, SameOutside}
 use Rattle.cache_door.proofs.Weighs.{total-set, total-at}
 use Rattle.blob_parts.specs.Pieces.{PieceView}

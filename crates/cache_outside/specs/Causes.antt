@@ -1,11 +1,8 @@
 -- When a call of the outside may answer that it failed.
-use Rattle.std.specs.Prelude.{◌≤◌, ◌^◌, ◌+◌, ◌-◌, ℕ, min, Result, IsErrOf}
+use Rattle.std.specs.Prelude.{◌≤◌, ℕ, Result, IsErrOf}
+use Rattle.byte_text.specs.Counts.{Rose}
 use Rattle.cache_outside.specs.declared.fault.OutError.{OutError}
 use Rattle.cache_outside.specs.declared.fault.OutError.TheVariants.{Failed}
-
--- a count rose, or stands at the last value of a u64
-abbrev pub Rose : ℕ → ℕ → Type 0
-Rose before now = min (before + 1) (2 ^ 64 - 1) ≤ now
 
 -- a count of faults never falls, and `Failed` comes only where it rose
 pub record HasCause {T : Type 0} (before now : ℕ) (result : Result T OutError) : Type 0 where

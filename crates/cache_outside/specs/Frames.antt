@@ -1,6 +1,6 @@
 -- What clauses see of a frame and of a maker of frames, and what their calls leave of them.
 use Rattle.std.specs.Prelude.{ℕ, ◌≡◌, ◌≤◌, ◌+◌, List, ◌++◌, length, take, drop, Result, IsErr, IsOk, IsErrOf, Bool, IsTrue}
-use Rattle.cache_outside.specs.Causes.{Rose}
+use Rattle.byte_text.specs.Counts.{Rose}
 use Rattle.cache_outside.specs.declared.fault.OutError.{OutError}
 use Rattle.cache_outside.specs.declared.fault.OutError.TheVariants.{Failed}
 

@@ -1,6 +1,6 @@
 -- What clauses see of a source of text, and what a read leaves of it.
 use Rattle.std.specs.Prelude.{ℕ, ◌≡◌, ◌≤◌, Option, option_map, List, [], length, take, drop, Result, Ok, Err, IsErrOf}
-use Rattle.cache_outside.specs.Causes.{Rose}
+use Rattle.byte_text.specs.Counts.{Rose}
 use Rattle.cache_outside.specs.declared.fault.OutError.{OutError}
 use Rattle.cache_outside.specs.declared.fault.OutError.TheVariants.{Failed}
 

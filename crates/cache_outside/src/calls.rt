@@ -1,6 +1,7 @@
 // The calls that a source in memory was asked so far, and those of them that are to fail.
 ghost use Rattle.std.specs.Prelude.{◌≡◌, ◌≤◌};
-ghost use Rattle.cache_outside.specs.Causes.{HasCause, Rose};
+ghost use Rattle.byte_text.specs.Counts.{Rose};
+ghost use Rattle.cache_outside.specs.Causes.{HasCause};
 
 use crate::OutError;
 use crate::fault::fail;

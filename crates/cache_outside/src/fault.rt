@@ -1,6 +1,6 @@
 // Why a call of the outside was refused, and the count of failures that each adapter keeps.
 ghost use Rattle.std.specs.Prelude.{◌≡◌, ◌≤◌};
-ghost use Rattle.cache_outside.specs.Causes.{Rose};
+ghost use Rattle.byte_text.specs.Counts.{Rose};
 ghost use Rattle.cache_outside.specs.declared.fault.OutError.TheVariants.{NoMemory};
 
 use std::alloc::{AllocError, AllocFailed};

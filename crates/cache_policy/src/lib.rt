@@ -1,5 +1,5 @@
-// Which region of the shared cache is given to which key, and which region is taken back next: the free list, the frequency
-// lists and the leaving list.
+// Which region of the shared cache is given to which key, and which region is taken back next: the free list, the
+// frequency lists and the leaving list.
 #![tactic(auto)]
 
 mod index;

@@ -25,9 +25,14 @@ fn lower_list(
     now: u64,
 ) -> u32
     requires list { below + 1 < length lists.old.lists }
-    requires last_accesses { (lists.old.nodes ≤ length last_accesses.now) × (lists.old.nodes < 4294967296) × (length lists.old.lists < 4294967296) }
-    ensures lists { lists.new ≡ record lists.old { lists = lowering (goes_down last_accesses.now min_delta now) below (length (list_at (suc below) lists.old.lists)) lists.old.lists } }
-    ensures count { result ≡ length (filter (goes_down last_accesses.now min_delta now) (list_at (suc below) lists.old.lists)) }
+    requires last_accesses { (lists.old.nodes ≤ length last_accesses.now) × (lists.old.nodes < 4294967296)
+        × (length lists.old.lists < 4294967296) }
+    ensures lists { lists.new ≡ record lists.old {
+      lists = lowering (goes_down last_accesses.now min_delta now) below
+          (length (list_at (suc below) lists.old.lists)) lists.old.lists;
+    } }
+    ensures count { result
+        ≡ length (filter (goes_down last_accesses.now min_delta now) (list_at (suc below) lists.old.lists)) }
 {
     lists.lesson();
     let mut at = lists.front(below + 1);
@@ -57,8 +62,10 @@ pub fn lower_all(
 ) -> u64
     requires count { (length lists.old.lists ≡ max_freq) × (0 < max_freq) }
     requires last_accesses { (lists.old.nodes ≤ length last_accesses.now) × (lists.old.nodes < 4294967296) }
-    ensures lists { lists.new ≡ record lists.old { lists = lower (goes_down last_accesses.now min_delta now) lists.old.lists } }
-    ensures counter { result ≡ rise demotions (count_from (goes_down last_accesses.now min_delta now) 0 lists.old.lists) }
+    ensures lists { lists.new
+        ≡ record lists.old { lists = lower (goes_down last_accesses.now min_delta now) lists.old.lists } }
+    ensures counter { result
+        ≡ rise demotions (count_from (goes_down last_accesses.now min_delta now) 0 lists.old.lists) }
 {
     let mut counter = demotions;
     for below in 0..max_freq - 1 {

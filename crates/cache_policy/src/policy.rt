@@ -15,9 +15,10 @@ use region_ranges::{Config, RegionKey};
 use std::alloc::{AllocError, Global};
 use std::marker::Model;
 
-/// The eviction policy of the shared cache, as Elasticsearch's `SharedBlobCacheService` has it in outline: frequencies that
-/// rise with accesses and fall by decays. Each region is free, or mapped to one key and in the list of its frequency, or
-/// leaving. Clauses see the lists with their order, and by region the packed key and the time of the last access.
+/// The eviction policy of the shared cache, as Elasticsearch's `SharedBlobCacheService` has it in outline: frequencies
+/// that rise with accesses and fall by decays. Each region is free, or mapped to one key and in the list of its
+/// frequency, or leaving. Clauses see the lists with their order, and by region the packed key and the time of the last
+/// access.
 #[derive(Drop)]
 pub struct Policy {
     free: Vec<u32>,
@@ -82,8 +83,8 @@ impl Policy {
         self.keys.find(key.pack())
     }
 
-    /// An access to a mapped region at a time in milliseconds. Where its last access is at least the least interval ago, and
-    /// its frequency is not the last, the frequency rises by one; otherwise nothing changes.
+    /// An access to a mapped region at a time in milliseconds. Where its last access is at least the least interval
+    /// ago, and its frequency is not the last, the frequency rises by one; otherwise nothing changes.
     pub fn touch(&mut self, region: u32, now: u64)
         requires { IsSome (tag_at self.old region) }
         ensures policy { self.new ≡ touch region now self.old }
@@ -112,12 +113,13 @@ impl Policy {
         Some(self.free[0])
     }
 
-    /// The mapped region behind this one in the order of eviction, by rising frequency and in each list from its front; after
-    /// None the first one. None exactly at the end.
+    /// The mapped region behind this one in the order of eviction, by rising frequency and in each list from its front;
+    /// after None the first one. None exactly at the end.
     pub fn next_candidate(&self, after: Option<u32>) -> Option<u32>
         requires { IfSome after (λ r. IsSome (tag_at self.now r)) }
         ensures rule { result ≡ next_candidate after self.now }
-        ensures place { IfSome after (λ r. (i : ℕ) → slice_get (candidates self.now) i ≡ Some r → result ≡ slice_get (candidates self.now) (i + 1)) }
+        ensures place { IfSome after (λ r. (i : ℕ) → slice_get (candidates self.now) i ≡ Some r
+            → result ≡ slice_get (candidates self.now) (i + 1)) }
         ensures mapped { IfSome result (λ r. IsSome (tag_at self.now r)) }
     {
         match after {
@@ -183,8 +185,8 @@ impl Policy {
         };
     }
 
-    /// The frequency of each region falls by one, once, where it is above 0 and the last access is at least twice the least
-    /// interval ago.
+    /// The frequency of each region falls by one, once, where it is above 0 and the last access is at least twice the
+    /// least interval ago.
     pub fn decay(&mut self, now: u64)
         ensures policy { self.new ≡ decay now self.old }
         ensures tags { (j : ℕ) → tag_at self.new j ≡ tag_at self.old j }
@@ -203,7 +205,8 @@ impl Policy {
     /// Each mapped region whose key has the manifest leaves, in rising order.
     pub fn clear(&mut self, manifest: u32)
         ensures policy { self.new ≡ clear manifest self.old }
-        ensures tags { (j : ℕ) → tag_at self.new j ≡ (if is_of manifest (tag_at self.old j) then None else tag_at self.old j) }
+        ensures tags { (j : ℕ) → tag_at self.new j
+            ≡ (if is_of manifest (tag_at self.old j) then None else tag_at self.old j) }
         ensures leaving { self.new.leaving ≡ self.old.leaving ++ regions_from 0 (is_of manifest) self.old.tags }
         ensures count { length self.new.tags ≡ length self.old.tags }
     {
@@ -247,7 +250,12 @@ impl Policy {
 
     /// The counters, and how many regions are mapped.
     pub fn tally(&self) -> Tally4
-        ensures { result ≡ record { evictions = self.now.evictions; promotions = self.now.promotions; demotions = self.now.demotions; listed = mapped_len self.now } }
+        ensures { result ≡ record {
+          evictions = self.now.evictions;
+          promotions = self.now.promotions;
+          demotions = self.now.demotions;
+          listed = mapped_len self.now;
+        } }
     {
         Tally4 {
             evictions: self.evictions,
@@ -257,8 +265,8 @@ impl Policy {
         }
     }
 
-    /// What is true of every policy: each region is in exactly one list, once, the keys of mapped regions differ, and the
-    /// candidates are the mapped regions. A call does nothing else than tell it.
+    /// What is true of every policy: each region is in exactly one list, once, the keys of mapped regions differ, and
+    /// the candidates are the mapped regions. A call does nothing else than tell it.
     pub fn lesson(&self)
         ensures good { IsGood self.now }
         ensures candidates { (r : ℕ) → 0 < times_in r (candidates self.now) → IsSome (tag_at self.now r) }

@@ -3,7 +3,8 @@ use Rattle.std.proofs.Common.{arith, ◌≡◌, ◌≢◌, ◌≤◌, ℕ, List,
 use Rattle.std.specs.Prelude.{OnOk, IsErr, IsErrOf}
 use Rattle.directory_input.specs.declared.files.BytesError.{BytesError}
 use Rattle.directory_input.specs.declared.files.BytesError.TheVariants.{Fault, Gone, NoMemory}
-use Rattle.directory_input.specs.Causes.{Rose, IsCaused, refusal}
+use Rattle.byte_text.specs.Counts.{Rose}
+use Rattle.directory_input.specs.Causes.{IsCaused, refusal}
 use Rattle.directory_input.specs.Files.{FilesView}
 use Rattle.blob_parts.specs.Content.{slice_of}
 use Rattle.blob_parts.specs.Takes.{Took, Takes}

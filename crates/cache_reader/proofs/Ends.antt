@@ -3,7 +3,7 @@ use Rattle.std.proofs.Common.{zero-add, arith, ◌≡◌, ◌<◌, ◌≤◌, �
 use Rattle.std.specs.Prelude.{IsTrue}
 use Rattle.std.proofs.Math.Nat.{mul-le-mul_left}
 use Rattle.std.proofs.lemmas.List.{length-append}
-use Rattle.cache_outside.specs.Causes.{Rose}
+use Rattle.byte_text.specs.Counts.{Rose}
 use Rattle.blob_parts.specs.Takes.{Took}
 use Rattle.cache_door.specs.declared.work.Work.{Work}
 use Rattle.cache_reader.specs.declared.report.Report.{Report}

@@ -4,7 +4,7 @@ use Rattle.std.specs.Prelude.{IsTrue, IfSome, OnOk, IsErrOf, option_map, min}
 use Rattle.std.proofs.Math.Nat.{div-mul-le_self, le_refl}
 use Rattle.region_ranges.specs.declared.ranges.ByteRange.{ByteRange}
 use Rattle.region_ranges.specs.declared.keys.Config.{Config}
-use Rattle.cache_outside.specs.Causes.{Rose}
+use Rattle.byte_text.specs.Counts.{Rose}
 use Rattle.directory_input.specs.declared.files.BytesError.{BytesError}
 use Rattle.directory_input.specs.declared.files.BytesError.TheVariants as bytes
 use Rattle.blob_parts.specs.Content.{slice_of}

@@ -6,7 +6,7 @@ use Rattle.region_ranges.specs.declared.keys.Config.{Config}
 use Rattle.region_cell.specs.Cells.{region_bytes}
 use Rattle.blob_parts.specs.Content.{slice_of}
 use Rattle.cache_reader.specs.Filling.{SameHold}
-use Rattle.cache_outside.specs.Causes.{Rose}
+use Rattle.byte_text.specs.Counts.{Rose}
 use Rattle.region_cell.specs.declared.taken.Taken.{Taken}
 use Rattle.region_cell.specs.declared.taken.Taken.TheVariants as taken
 use Rattle.cache_door.specs.declared.hold.Hold.{Hold}

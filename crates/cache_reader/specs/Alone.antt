@@ -5,7 +5,7 @@ use Rattle.region_ranges.specs.declared.ranges.ByteRange.{ByteRange}
 use Rattle.region_ranges.specs.Keys.{tag_of}
 use Rattle.cache_policy.specs.Policy.{find}
 use Rattle.cache_policy.specs.Ageing.{touch}
-use Rattle.cache_outside.specs.Causes.{Rose}
+use Rattle.byte_text.specs.Counts.{Rose}
 use Rattle.directory_input.specs.Reads.{Read}
 use Rattle.blob_parts.specs.Takes.{Took}
 use Rattle.cache_door.specs.declared.answers.Entered.{Entered}

@@ -5,7 +5,7 @@ use Rattle.std.proofs.lemmas.Bool.{cases_lt}
 use Rattle.std.proofs.lemmas.Grind.{flat_map-append}
 use Rattle.std.proofs.lemmas.List.{append-nil, append_assoc, length-append}
 use Rattle.std.proofs.Math.Nat.{le_refl, le_trans}
-use Rattle.cache_outside.specs.Causes.{Rose}
+use Rattle.byte_text.specs.Counts.{Rose}
 use Rattle.blob_parts.specs.Content.{spread, spread_one}
 use Rattle.blob_parts.specs.Takes.{Took}
 use Rattle.cache_door.specs.declared.work.Work.{Work}

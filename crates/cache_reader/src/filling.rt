@@ -1,6 +1,6 @@
 // The gap of a hold: fetched in pieces, each stored at once.
 ghost use Rattle.std.specs.Prelude.{◌≡◌, ◌<◌, ◌≤◌, ◌+◌, ◌-◌, ◌*◌, true, false, Some, Ok, IsTrue, IsErrOf, IfSome, length};
-ghost use Rattle.cache_outside.specs.Causes.{Rose};
+ghost use Rattle.byte_text.specs.Counts.{Rose};
 ghost use Rattle.blob_parts.specs.Content.{content, content_places, slice_of};
 ghost use Rattle.blob_parts.specs.Tables.{file_length};
 ghost use Rattle.blob_parts.specs.Takes.{Takes, Took};

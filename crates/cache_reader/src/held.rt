@@ -1,7 +1,7 @@
 // A part whose region is held: filled, copied, and given back; or read past the cache.
 ghost use Rattle.std.specs.Prelude.{◌≡◌, ◌≢◌, ◌<◌, ◌≤◌, ◌+◌, ◌-◌, ◌*◌, ℕ, true, false, Some, Ok, Err, IsTrue, OnOk, IsErr, IsErrOf, IfSome, length};
 ghost use Rattle.region_cell.specs.Cells.{region_bytes};
-ghost use Rattle.cache_outside.specs.Causes.{Rose};
+ghost use Rattle.byte_text.specs.Counts.{Rose};
 ghost use Rattle.blob_parts.specs.Content.{content, content_places, slice_of};
 ghost use Rattle.blob_parts.specs.Tables.{file_length};
 ghost use Rattle.blob_parts.specs.Takes.{SourceLater, Takes, Took};

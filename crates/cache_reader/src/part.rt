@@ -123,7 +123,8 @@ fn enter_part<A: Archive, D: CacheDoor<A>, S: BlobSource<A>>(
     requires part { (part.start < part.end) × (part.end ≤ file_length table.now file)
         × (part.start / setting.now.config.range ≡ (part.end - 1) / setting.now.config.range) }
     requires len { length out.old ≡ part.end - part.start }
-    requires want { want.now ≡ want_of setting.now.config.region table.now.number file (file_length table.now file) part }
+    requires want { want.now
+        ≡ want_of setting.now.config.region table.now.number file (file_length table.now file) part }
     requires wanted { IsWant setting.now.config want.now }
     requires whole { IsTrue A.tells → HasLength (content A.blobs) setting.now.config want.now }
     ensures stays { D.stays door.old door.new }

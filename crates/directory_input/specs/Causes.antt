@@ -1,12 +1,9 @@
 -- Why bytes were not given, and what a refusal says of the files' counts and marks.
-use Rattle.std.specs.Prelude.{ℕ, ◌≡◌, ◌≤◌, ◌+◌, ◌-◌, ◌^◌, min, Bool, false, IsTrue, Option, Some, None, Result, Ok, Err}
+use Rattle.std.specs.Prelude.{ℕ, ◌≡◌, Bool, false, IsTrue, Option, Some, None, Result, Ok, Err}
+use Rattle.byte_text.specs.Counts.{Rose}
 use Rattle.directory_input.specs.Files.{FilesView, FilesLater}
 use Rattle.directory_input.specs.declared.files.BytesError.{BytesError}
 use Rattle.directory_input.specs.declared.files.BytesError.TheVariants.{Fault, Gone, NoMemory}
-
--- a count rose in a call; a count that stands at its last value can rise no more, and passes
-abbrev pub Rose : ℕ → ℕ → Type 0
-Rose before now = min (before + 1) (2 ^ 64 - 1) ≤ now
 
 -- `Fault` comes only where the count of faults rose, `Gone` only of this mount and where it was seen gone; want of
 -- memory is free

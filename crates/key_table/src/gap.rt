@@ -9,7 +9,8 @@ use crate::places::{Entry, after, first_place, steps};
 fn move_up(slots: &mut Vec<Option<Entry>>, gap: usize, at: usize, entry: Entry) -> usize
     requires { (gap < length slots.old.items) × (at < length slots.old.items) }
     ensures gap { result ≡ (if is_over (length slots.old.items) gap at entry then at else gap) }
-    ensures slots { slots.new.items ≡ (if is_over (length slots.old.items) gap at entry then slice_set (slice_set slots.old.items gap (Some entry)) at None else slots.old.items) }
+    ensures slots { slots.new.items ≡ (if is_over (length slots.old.items) gap at entry
+        then slice_set (slice_set slots.old.items gap (Some entry)) at None else slots.old.items) }
 {
     let size = slots.len();
     if steps(size, gap, at) <= steps(size, first_place(entry.key, size), at) {

@@ -47,7 +47,9 @@ pub fn probe(slots: &[Option<Entry>], key: u64) -> usize
     requires { keys_in slots.now < length slots.now }
     ensures bound { result < length slots.now }
     ensures key { (e : Entry) → entry_at slots.now result ≡ Some e → e.key ≡ key }
-    ensures before { (m : ℕ) → m < length slots.now → steps (length slots.now) (first_place key (length slots.now)) m < steps (length slots.now) (first_place key (length slots.now)) result
+    ensures before { (m : ℕ) → m < length slots.now
+        → steps (length slots.now) (first_place key (length slots.now)) m
+        < steps (length slots.now) (first_place key (length slots.now)) result
         → (e : Entry) × (entry_at slots.now m ≡ Some e) × (e.key ≢ key) }
 {
     let size = slots.len();

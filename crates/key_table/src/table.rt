@@ -7,9 +7,10 @@ use crate::places::{Entry, probe};
 use std::alloc::{AllocError, Global};
 use std::marker::Model;
 
-/// A fixed table from keys to regions, for a number of keys that is given when it is made. Its size is the least power of
-/// two that is at least twice that number. A search begins at `(key * 11400714819323198485 modulo 2^64) / 2^32 modulo
-/// size` and goes on place by place. A removal closes the gap that it leaves, so a search ends at the first free place.
+/// A fixed table from keys to regions, for a number of keys that is given when it is made. Its size is the least power
+/// of two that is at least twice that number. A search begins at `(key * 11400714819323198485 modulo 2^64) / 2^32
+/// modulo size` and goes on place by place. A removal closes the gap that it leaves, so a search ends at the first free
+/// place.
 #[derive(Drop)]
 pub struct KeyTable {
     slots: Vec<Option<Entry>>,

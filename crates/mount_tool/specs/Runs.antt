@@ -1,7 +1,7 @@
 -- What a run of the program may write, and its statuses.
 use Rattle.std.specs.Prelude.{ℕ, ◌≡◌, ◌⊎◌, ◌==◌, ◌||◌, ◌++◌, List, Bool, is_none, IsTrue, Option, take, codes, slice_get}
 use Rattle.std.specs.Option.{option_map_or}
-use Rattle.cache_outside.specs.Causes.{Rose}
+use Rattle.byte_text.specs.Counts.{Rose}
 use Rattle.cache_outside.specs.Listing.{Listing}
 use Rattle.cache_outside.specs.Sinks.{SinkView, behind}
 use Rattle.mount_tool.specs.Words.{Term}

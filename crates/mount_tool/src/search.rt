@@ -1,6 +1,6 @@
 // The command `term`: the documents of a manifest's segments that have a term in a field.
 ghost use Rattle.std.specs.Prelude.{◌≡◌, ◌<◌, ◌≤◌, ℕ, true, Ok, Some, IsTrue, IfOk, All, length, map, take, slice_get};
-ghost use Rattle.cache_outside.specs.Causes.{Rose};
+ghost use Rattle.byte_text.specs.Counts.{Rose};
 ghost use Rattle.blob_parts.specs.Content.{content, manifest_at, part_refusal};
 ghost use Rattle.blob_parts.specs.Resolving.{Refuses};
 ghost use Rattle.query_lang.specs.Trees.{tree_of, term};

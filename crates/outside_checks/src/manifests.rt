@@ -81,7 +81,8 @@ fn one_part_has_the_file_name(rt: HostRuntime) -> Result<(), ManifestError> {
     Ok(())
 }
 
-/// A file of no bytes, a part size that divides the length, one that does not, and as many parts as a manifest may have.
+/// A file of no bytes, a part size that divides the length, one that does not, and as many parts as a manifest may
+/// have.
 #[test]
 fn counts_parts(rt: HostRuntime) -> Result<(), ManifestError> {
     let alloc = rt.alloc();

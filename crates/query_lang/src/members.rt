@@ -38,7 +38,8 @@ impl BoolParts {
         list: Option<Clauses>,
         number: Option<u64>,
     ) -> Option<BoolParts>
-        ensures member { option_map parts_of result ≡ with_member (parts_of self) key.now (option_map (map tree_of) list) number }
+        ensures member { option_map parts_of result
+            ≡ with_member (parts_of self) key.now (option_map (map tree_of) list) number }
         ensures text { IsTrue (is_text (compound_of (parts_of self))) → AreTexts list
             → IfSome result (λ p. IsTrue (is_text (compound_of (parts_of p)))) }
     {

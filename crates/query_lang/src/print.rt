@@ -33,7 +33,8 @@ fn with_list(
     key: &str,
     list: Vec<Value>,
 ) -> Result<(), AllocError>
-    ensures { OnOk result (members_view members.new.entries ≡ put_list key.now (items_view list.items) (members_view members.old.entries)) }
+    ensures { OnOk result (members_view members.new.entries
+        ≡ put_list key.now (items_view list.items) (members_view members.old.entries)) }
 {
     if list.len() == 0 {
         return Ok(());
@@ -47,7 +48,8 @@ fn with_number(
     key: &str,
     number: Option<u64>,
 ) -> Result<(), AllocError>
-    ensures { OnOk result (members_view members.new.entries ≡ put_number key.now number (members_view members.old.entries)) }
+    ensures { OnOk result (members_view members.new.entries
+        ≡ put_number key.now number (members_view members.old.entries)) }
 {
     match number {
         None => Ok(()),
@@ -141,8 +143,8 @@ fn text_of_string(text: String) -> Text
 impl Query {
     /// The JSON text of a query, without blanks, and with the members of a `bool` in the order of their keys: terms in
     /// the short form, clause lists as arrays, empty lists and a missing minimum left out. Its condition is that field
-    /// names and values are UTF-8, as those of a query that was read are. It is read as the same query, where that nests
-    /// at most 32 deep.
+    /// names and values are UTF-8, as those of a query that was read are. It is read as the same query, where that
+    /// nests at most 32 deep.
     pub fn print(&self, alloc: Global) -> Result<Text, AllocError>
         requires { IsTrue (is_text (tree_of self.now)) }
         ensures text { IfOk result (λ t. t ≡ compact_text (data_of (tree_of self.now))) }

@@ -125,7 +125,8 @@ fn bool_query(alloc: Global, value: &Value) -> Result<Option<Query>, AllocError>
 /// The queries of an array, or the one query that a value is.
 #[cycle(reads)]
 fn clause_list(alloc: Global, value: &Value) -> Result<Option<Clauses>, AllocError>
-    ensures form { IfOk result (λ o. option_map (map tree_of) o ≡ first_of (list_form (view value.now)) (one_tree (form (view value.now)))) }
+    ensures form { IfOk result (λ o. option_map (map tree_of) o
+        ≡ first_of (list_form (view value.now)) (one_tree (form (view value.now)))) }
     ensures text { IfOk result AreTexts }
 {
     if let Some(list) = value.as_array() {
@@ -206,8 +207,8 @@ fn json_of(alloc: Global, bytes: &[u8]) -> Result<Value, QueryError>
 impl Query {
     /// The query that a JSON text is: an object with exactly one member, `match_all`, `term` or `bool`. `NotJson` comes
     /// exactly where `serde_json` refuses the text for another cause than memory, among them nesting above 127; then
-    /// `Shape` exactly where the value is in none of the forms; then `Depth` exactly where `bool` queries nest more than
-    /// 32 deep. Bytes that are no UTF-8 are no JSON.
+    /// `Shape` exactly where the value is in none of the forms; then `Depth` exactly where `bool` queries nest more
+    /// than 32 deep. Bytes that are no UTF-8 are no JSON.
     pub fn read(alloc: Global, bytes: &[u8]) -> Result<Query, QueryError>
         ensures read { IsRead result (query bytes.now) }
         ensures text { IfOk result (λ q. IsTrue (is_text (tree_of q))) }

@@ -12,7 +12,7 @@ use Rattle.sparse_tracker.specs.declared.status.Status.TheVariants as status_of
 use Rattle.sparse_tracker.specs.ByteStates as byte_states
 use Rattle.sparse_tracker.specs.ByteStates.{ByteState, present, Tracker, TrackerView, claimed_run, new_tracker, has_all, lacks, ticket_of, gap_of, status}
 use Rattle.sparse_tracker.specs.Kept as tracker
-use Rattle.cache_outside.specs.Causes.{Rose}
+use Rattle.byte_text.specs.Counts.{Rose}
 use Rattle.cache_outside.specs.Frames.{FrameView, put_at, SameOutside}
 use Rattle.blob_parts.specs.Content.{slice_of}
 use Rattle.blob_parts.specs.Pieces.{PieceView}

@@ -128,7 +128,8 @@ impl RangeSet {
     pub fn first_absent_run(&self, within: ByteRange, from: u64) -> Option<ByteRange>
         ensures run { result ≡ first_run (free_below self.now.ranges within.end) within.start from }
         ensures some { IfSome result (IsFirstRun (has self.now.ranges) within from) }
-        ensures none { IfNone result ((i : ℕ) → from ≤ i → within.start ≤ i → i < within.end → has self.now.ranges i ≡ true) }
+        ensures none { IfNone result
+            ((i : ℕ) → from ≤ i → within.start ≤ i → i < within.end → has self.now.ranges i ≡ true) }
     {
         first_free(&self.ranges, within, from)
     }

@@ -1,4 +1,5 @@
-// The blobs of the sample archive: three small manifests over one postings text and its parts, and one over 10,000 counted bytes.
+// The blobs of the sample archive: three small manifests over one postings text and its parts, and one over 10,000
+// counted bytes.
 ghost use Rattle.std.specs.Prelude.{◌≡◌, ◌++◌, ◌∷◌, [], true, IfOk};
 ghost use Rattle.byte_text.specs.Names.{is_name};
 ghost use Rattle.sample_archive.specs.Sample.{sample, counting};

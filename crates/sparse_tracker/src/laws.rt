@@ -13,7 +13,8 @@ pub fn gap_weights()
     ensures { GapWeights }
 {}
 
-/// A claim takes the greatest run of absent bytes round the first absent wanted byte, and nothing where no wanted byte is absent.
+/// A claim takes the greatest run of absent bytes round the first absent wanted byte, and nothing where no wanted byte
+/// is absent.
 pub fn claim_places()
     ensures { ClaimPlaces }
 {}

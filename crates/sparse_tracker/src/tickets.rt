@@ -50,7 +50,8 @@ pub fn unused_number(tickets: &[Ticket]) -> u32
 pub fn push_ticket(tickets: &mut Vec<Ticket>, sub: ByteRange) -> u32
     requires { (vec_len tickets.old < vec_capacity tickets.old) × (vec_len tickets.old < 4294967295) }
     ensures number { result ≡ least_unused (numbers tickets.old.items) }
-    ensures items { tickets.new.items ≡ tickets.old.items ++ record { number = result; start = sub.start; end = sub.end; failed = false } ∷ [] }
+    ensures items { tickets.new.items ≡ tickets.old.items
+        ++ record { number = result; start = sub.start; end = sub.end; failed = false } ∷ [] }
     ensures len { vec_len tickets.new ≡ vec_len tickets.old + 1 }
     ensures capacity { vec_capacity tickets.old ≤ vec_capacity tickets.new }
 {

@@ -1,5 +1,5 @@
-//! A tracker keeps which places are present or pending as one set of ranges, and the open gaps and tickets as short lists.
-//! So progress moves one number, a claim is one `add`, and a failure is one `remove`.
+//! A tracker keeps which places are present or pending as one set of ranges, and the open gaps and tickets as short
+//! lists. So progress moves one number, a claim is one `add`, and a failure is one `remove`.
 
 ghost use Rattle.std.specs.Prelude.{◌≡◌, ◌<◌, ◌≤◌, ◌+◌, ◌-◌, ℕ, max, OnOk, OnErr, IfOk, IsOk, IfSome, IsSome, option_map, length, true, false, ◌||◌, ◌&&◌, not, ◌++◌, ◌∷◌, [], Some, vec_len, vec_capacity};
 ghost use Rattle.region_ranges.specs.Ranges.{inside, has, first_run, free_below};
@@ -31,11 +31,20 @@ impl Model for Tracker {
 
     ghost Value = { TrackerView };
 
-    ghost view = { λ t. record { tracker = record { byte_states = byte_states_of t.len t.taken.ranges t.gaps.items; gaps = t.gaps.items; tickets = t.tickets.items }; first_len = t.first_len; spare = t.spare } };
+    ghost view = { λ t. record {
+      tracker = record {
+        byte_states = byte_states_of t.len t.taken.ranges t.gaps.items;
+        gaps = t.gaps.items;
+        tickets = t.tickets.items;
+      };
+      first_len = t.first_len;
+      spare = t.spare;
+    } };
 
     ghost invariant = { λ t.
         IsStored t.first_len t.len t.taken.ranges t.gaps.items t.tickets.items
-        × HasRoom (vec_len t.gaps) (vec_len t.tickets) t.spare t.taken.spare (vec_capacity t.gaps) (vec_capacity t.tickets) };
+        × HasRoom (vec_len t.gaps) (vec_len t.tickets) t.spare t.taken.spare (vec_capacity t.gaps)
+        (vec_capacity t.tickets) };
 }
 
 impl Tracker {
@@ -86,8 +95,8 @@ impl Tracker {
         !has_absent(&self.taken, sub) && !has_pending(&self.gaps, sub)
     }
 
-    /// Room for one more claim: the next `wait_for_range` finds all its memory there. It is refused only for want of memory,
-    /// as which a tracker with some 2^32 gaps or tickets counts too.
+    /// Room for one more claim: the next `wait_for_range` finds all its memory there. It is refused only for want of
+    /// memory, as which a tracker with some 2^32 gaps or tickets counts too.
     pub fn reserve(&mut self) -> Result<(), AllocError>
         ensures ok { OnOk result (self.new ≡ record self.old { spare = max self.old.spare 1 }) }
         ensures err { OnErr result (self.new ≡ self.old) }
@@ -106,13 +115,14 @@ impl Tracker {
         Ok(())
     }
 
-    /// A ticket on `sub`, and where a byte of it is absent a gap: the greatest run of absent bytes in `range` round the first one.
-    /// The gap is the caller's to fetch, and pending from now on. It takes its memory from `spare`, where that
-    /// is at least 1, and else may be refused for want of memory, with all as before.
+    /// A ticket on `sub`, and where a byte of it is absent a gap: the greatest run of absent bytes in `range` round the
+    /// first one. The gap is the caller's to fetch, and pending from now on. It takes its memory from `spare`, where
+    /// that is at least 1, and else may be refused for want of memory, with all as before.
     pub fn wait_for_range(&mut self, range: ByteRange, sub: ByteRange) -> Result<Claim, AllocError>
         requires sub { (sub.start < sub.end) × (range.start ≤ sub.start) × (sub.end ≤ range.end) }
         requires range { range.end ≤ length self.old.tracker.byte_states }
-        ensures ok { OnOk result (self.new ≡ record self.old { tracker = wait_for_range range sub self.old.tracker; spare = self.old.spare - 1 }) }
+        ensures ok { OnOk result (self.new
+            ≡ record self.old { tracker = wait_for_range range sub self.old.tracker; spare = self.old.spare - 1 }) }
         ensures claim { IfOk result (λ c. c ≡ new_claim range sub self.old.tracker) }
         ensures err { OnErr result (self.new ≡ self.old) }
         ensures room { 0 < self.old.spare → IsOk result }
@@ -168,7 +178,8 @@ impl Tracker {
         move_gap(&mut self.gaps, gap, end);
     }
 
-    /// The gap's bytes that are still pending are absent again, and the gap is closed. Each ticket that waits for one of them is marked.
+    /// The gap's bytes that are still pending are absent again, and the gap is closed. Each ticket that waits for one
+    /// of them is marked.
     pub fn fail(&mut self, gap: u32)
         requires { IsSome (gap_of gap self.old.tracker) }
         ensures { self.new ≡ record self.old { tracker = fail gap self.old.tracker } }
@@ -205,7 +216,8 @@ impl Tracker {
     /// The bytes that the ticket waits for.
     pub fn waits_for(&self, ticket: u32) -> ByteRange
         requires { IsSome (ticket_of ticket self.now.tracker) }
-        ensures { option_map (λ k. record { start = k.start; end = k.end }) (ticket_of ticket self.now.tracker) ≡ Some result }
+        ensures { option_map (λ k. record { start = k.start; end = k.end }) (ticket_of ticket self.now.tracker)
+            ≡ Some result }
     {
         let waiting = ticket_of(&self.tickets, ticket);
         ByteRange {
@@ -237,7 +249,8 @@ impl Tracker {
 // the run that a claim takes
 fn claimed(taken: &RangeSet, range: ByteRange, sub: ByteRange) -> Option<ByteRange>
     ensures run { result ≡ not_behind sub (first_run (free_below taken.now.ranges range.end) range.start sub.start) }
-    ensures some { IfSome result (λ r. (range.start ≤ r.start) × (r.start < r.end) × (r.end ≤ range.end) × ((i : ℕ) → inside r i ≡ true → has taken.now.ranges i ≡ false)) }
+    ensures some { IfSome result (λ r. (range.start ≤ r.start) × (r.start < r.end) × (r.end ≤ range.end)
+        × ((i : ℕ) → inside r i ≡ true → has taken.now.ranges i ≡ false)) }
 {
     match taken.first_absent_run(range, sub.start) {
         Some(run) if run.start < sub.end => Some(run),
@@ -297,7 +310,8 @@ fn reserve_ticket(tickets: &mut Vec<Ticket>, spare: u32) -> Result<(), AllocErro
     ensures items { tickets.new.items ≡ tickets.old.items }
     ensures len { vec_len tickets.new ≡ vec_len tickets.old }
     ensures capacity { vec_capacity tickets.old ≤ vec_capacity tickets.new }
-    ensures ok { OnOk result ((vec_len tickets.new + 1 + spare ≤ vec_capacity tickets.new) × (vec_len tickets.new + 1 + spare ≤ 4294967295)) }
+    ensures ok { OnOk result ((vec_len tickets.new + 1 + spare ≤ vec_capacity tickets.new)
+        × (vec_len tickets.new + 1 + spare ≤ 4294967295)) }
 {
     let spare = spare as usize;
     if tickets.len() >= 4_294_967_295 - spare {
