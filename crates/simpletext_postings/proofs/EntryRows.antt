@@ -9,7 +9,8 @@ use Rattle.std.proofs.lemmas.Bool.Decides.{nat_tests}
 use Rattle.directory_input.specs.Reads.{slice_of}
 use Rattle.directory_input.proofs.Slices.{drop_drop}
 use Rattle.text_lines.specs.Lines.{Taken, Cut, cut}
-use Rattle.simpletext_postings.specs.Postings.{form_of, last_field, last_term, last_doc, at_term, at_checksum, ends_entry, is_above, is_allowed, is_passed, own_positions, row, rows_after, forms_after, in_front, rows_of, postings}
+use Rattle.text_lines.specs.Words.{is_above}
+use Rattle.simpletext_postings.specs.Postings.{form_of, last_field, last_term, last_doc, at_term, at_checksum, ends_entry, is_allowed, is_passed, own_positions, row, rows_after, forms_after, in_front, rows_of, postings}
 use Rattle.simpletext_postings.specs.Rows.{is_of}
 use Rattle.simpletext_postings.specs.Terms.{TermEntry, ends_entries, entries_end, field_after, term_at, terms_after, terms_of, is_entry, posting_of, postings_with}
 use Rattle.simpletext_postings.specs.Entries.{positions_here, listed, rises_from, line_forms, is_short, IsEntryText}

@@ -8,7 +8,8 @@ use Rattle.std.proofs.lemmas.Bool.{and_parts, or_parts}
 use Rattle.std.proofs.lemmas.Bool.Decides.{nat_tests}
 use Rattle.std.proofs.lemmas.List.Folds.{list_any-append}
 use Rattle.text_lines.specs.Lines.{nothing}
-use Rattle.simpletext_postings.specs.Postings.{fields, last_field, last_term, last_doc, last_position, position_count, frequency, is_above, is_not_below, is_term_above, at_start, at_field_or_term, at_term, at_freq, at_checksum, ends_position, ends_entry, may_begin_field, is_allowed, is_passed, own_positions, row, rows_after, forms_after}
+use Rattle.text_lines.specs.Words.{is_above}
+use Rattle.simpletext_postings.specs.Postings.{fields, last_field, last_term, last_doc, last_position, position_count, frequency, is_not_below, is_term_above, at_start, at_field_or_term, at_term, at_freq, at_checksum, ends_position, ends_entry, may_begin_field, is_allowed, is_passed, own_positions, row, rows_after, forms_after}
 use Rattle.simpletext_postings.specs.Rows.{is_not_falling, is_small, are_positions, fits_line, is_row, has_field, may_follow, each_follows, are_rows}
 use Rattle.simpletext_postings.specs.Written.{is_in_field, is_in_term}
 use Rattle.simpletext_postings.specs.Forms.{Form}

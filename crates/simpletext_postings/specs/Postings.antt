@@ -5,7 +5,7 @@ use Rattle.std.specs.Cmp.Lexicographic.{slice_cmp}
 use Rattle.std.specs.List.{list_any}
 use Rattle.std.specs.Str.{bytes_eq}
 use Rattle.text_lines.specs.Lines.{Taken, cut}
-use Rattle.text_lines.specs.Words.{number, begins, is_checksum}
+use Rattle.text_lines.specs.Words.{number, begins, is_above, is_checksum}
 use Rattle.simpletext_postings.specs.Forms.{Form}
 use Rattle.simpletext_postings.specs.Forms.{Field, Term, Doc, Freq, Pos, StartOffset, EndOffset, Payload, End, Checksum, Indented, Unknown}
 use Rattle.simpletext_postings.specs.declared.rows.Row.{Row}
@@ -102,10 +102,6 @@ frequency [] = 0
 frequency (Doc d ∷ past) = 0
 frequency (Freq n ∷ past) = n
 frequency (_ ∷ past) = frequency past
-
-abbrev pub is_above : Option ℕ → ℕ → Bool
-is_above None n = true
-is_above (Some m) n = nat_lt m n
 
 abbrev pub is_not_below : Option ℕ → ℕ → Bool
 is_not_below None n = true

@@ -1,6 +1,7 @@
 // Where a reader stands in the table of postings lines: what the lines so far say of the next one, names aside.
 ghost use Rattle.std.specs.Prelude.{◌≡◌, ℕ, List, [], ◌∷◌, ◌||◌};
-ghost use Rattle.simpletext_postings.specs.Postings.{is_above, is_not_below, may_begin_field, at_field_or_term, ends_entry};
+ghost use Rattle.text_lines.specs.Words.{is_above};
+ghost use Rattle.simpletext_postings.specs.Postings.{is_not_below, may_begin_field, at_field_or_term, ends_entry};
 ghost use Rattle.simpletext_postings.specs.Openings.{IsTableState, Moves, MovesBy, ends_of, is_whole, is_name, is_checksum_line};
 ghost use Rattle.simpletext_postings.specs.Forms.{Form};
 ghost use Rattle.simpletext_postings.specs.Forms as form;

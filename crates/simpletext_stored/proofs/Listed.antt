@@ -9,13 +9,14 @@ use Rattle.std.proofs.lemmas.List.{get_or-set_same, get_or-set_other, get_or-rep
 use Rattle.std.proofs.lemmas.List.Folds.{list_any-append}
 use Rattle.text_lines.specs.Readers.{Names, Refuses}
 use Rattle.text_lines.specs.Errors.{text_error}
+use Rattle.text_lines.specs.Words.{is_above}
 use Rattle.text_lines.specs.declared.reader.LineError.{LineError}
 use Rattle.text_lines.specs.declared.reader.LineError.TheVariants.{Unended, TooLong, Bytes}
 use Rattle.doc_bits.specs.Places.{places_of}
 use Rattle.doc_bits.proofs.Lists.{filter-range_same, filter-range_none}
 use Rattle.simpletext_stored.specs.Answers.{Breaks}
 use Rattle.simpletext_stored.specs.Reading.{Lines, lines_of, map_ok}
-use Rattle.simpletext_stored.specs.Live.{form_of, last, last_doc, is_above, is_listing, is_allowed, is_checksum_line, may_end, doc_numbers, live}
+use Rattle.simpletext_stored.specs.Live.{form_of, last, last_doc, is_listing, is_allowed, is_checksum_line, may_end, doc_numbers, live}
 use Rattle.simpletext_stored.specs.Listing.{IsLiveState, LiveStep, IsDocWithin, with_doc}
 use Rattle.simpletext_stored.specs.declared.live_form.LiveForm.{LiveForm}
 use Rattle.simpletext_stored.specs.declared.live_form.LiveForm.TheVariants.{Size, Doc, End, Checksum, Unknown}

@@ -2,7 +2,7 @@
 -- before it.
 use Rattle.std.specs.Prelude.{ℕ, ◌&&◌, ◌==◌, List, [], ◌∷◌, drop, Bool, true, false, nat_lt, Option, Some, None, Result, if◌then◌else◌, codes}
 use Rattle.std.specs.Str.{bytes_eq}
-use Rattle.text_lines.specs.Words.{begins, number, is_checksum}
+use Rattle.text_lines.specs.Words.{begins, number, is_above, is_checksum}
 use Rattle.simpletext_stored.specs.Reading.{Lines, lines_of, map_ok}
 use Rattle.simpletext_stored.specs.declared.live_form.LiveForm.{LiveForm}
 use Rattle.simpletext_stored.specs.declared.live_form.LiveForm.TheVariants.{Size, Doc, End, Checksum, Unknown}
@@ -36,10 +36,6 @@ abbrev pub last_doc : List LiveForm → Option ℕ
 last_doc [] = None
 last_doc (Doc n ∷ past) = Some n
 last_doc (_ ∷ past) = last_doc past
-
-abbrev pub is_above : Option ℕ → ℕ → Bool
-is_above None n = true
-is_above (Some m) n = nat_lt m n
 
 abbrev pub is_start : Option LiveForm → Bool
 is_start None = true

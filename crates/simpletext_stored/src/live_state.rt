@@ -1,6 +1,7 @@
 // What the lines of a text of live documents so far say of the next one.
 ghost use Rattle.std.specs.Prelude.{◌≡◌, ℕ, List, [], Bool, true, IfOk};
-ghost use Rattle.simpletext_stored.specs.Live.{last, last_doc, is_above, is_allowed, is_listing, is_end, is_checksum_line};
+ghost use Rattle.text_lines.specs.Words.{is_above};
+ghost use Rattle.simpletext_stored.specs.Live.{last, last_doc, is_allowed, is_listing, is_end, is_checksum_line};
 ghost use Rattle.simpletext_stored.specs.Listing.{IsLiveState, LiveStep};
 ghost use Rattle.simpletext_stored.specs.declared.live_form.LiveForm.{LiveForm};
 
