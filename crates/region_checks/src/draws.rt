@@ -1,5 +1,5 @@
-//! Drawn numbers: a step replaces x by `x * 6364136223846793005 + 1442695040888963407` modulo 2^64, and a draw below n is
-//! `x / 2^33` modulo n.
+//! Drawn numbers: a step replaces x by `x * 6364136223846793005 + 1442695040888963407` modulo 2^64, and a draw below n
+//! is `x / 2^33` modulo n.
 
 ghost use Rattle.std.specs.Prelude.{◌<◌};
 

@@ -79,8 +79,8 @@ impl Counted {
     }
 }
 
-// The first of 10,000 drawn calls after which a table for so many keys is not as a plain list. A table of up to eight keys
-// is compared whole after each call, a larger one at the call's key, and whole after each 500th call.
+// The first of 10,000 drawn calls after which a table for so many keys is not as a plain list. A table of up to eight
+// keys is compared whole after each call, a larger one at the call's key, and whole after each 500th call.
 fn first_difference(alloc: Global, most: u32) -> Result<Option<u32>, AllocError>
     requires { (0 < most) × (most < 513) }
 {

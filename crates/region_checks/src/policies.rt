@@ -78,8 +78,8 @@ fn all_regions_are_free_at_first(rt: HostRuntime) {
     assert_eq!(rt; policy.next_candidate(None), None);
 }
 
-// Regions 1 and 2 rise to list 1. At the decay 120 seconds have passed since the touch of 1 and 80 since that of 2, so that
-// 1 falls behind 0 in list 0. Region 3, mapped last, shows where list 0 ends.
+// Regions 1 and 2 rise to list 1. At the decay 120 seconds have passed since the touch of 1 and 80 since that of 2, so
+// that 1 falls behind 0 in list 0. Region 3, mapped last, shows where list 0 ends.
 #[test]
 fn a_decay_lowers_by_one(rt: HostRuntime) {
     let mut policy = Policy::new(rt.alloc(), &config(4)).expect(&rt, "memory");

@@ -89,8 +89,8 @@ fn a_tracker_of_ten(rt: HostRuntime) -> Result<(), AllocError> {
     Ok(())
 }
 
-// Claims the first byte of so many pairs, and answers how many claims gave the gap and the ticket of their own number, up
-// to the first that did not.
+// Claims the first byte of so many pairs, and answers how many claims gave the gap and the ticket of their own number,
+// up to the first that did not.
 fn claim_pairs(tracker: &mut Tracker, pairs: u32) -> Result<u32, AllocError> {
     for id in 0..pairs {
         let start = 2 * id as u64;
