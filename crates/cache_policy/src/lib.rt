@@ -8,8 +8,6 @@ mod lower;
 mod order;
 mod policy;
 mod tally;
-#[cfg(test)]
-mod tests;
 
 pub use laws::{candidates_left, free_region_leaves};
 pub use policy::Policy;

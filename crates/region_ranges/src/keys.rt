@@ -72,20 +72,3 @@ pub fn tags_tell_keys()
     ensures manifest { (key : RegionKey) → IsKey key → manifest_of (tag_of key) ≡ key.manifest }
     ensures free { key_of free_tag ≡ None }
 {}
-
-#[cfg(test)]
-mod tests {
-    use super::*;
-
-    #[test]
-    fn one_tag_a_key(rt: HostRuntime) {
-        let key = RegionKey {
-            manifest: 1,
-            file: 2,
-            region: 3,
-        };
-        assert_eq!(rt; key.pack(), 1_100_048_498_691);
-        assert_eq!(rt; RegionKey::unpack(1_100_048_498_691), Some(key));
-        assert_eq!(rt; RegionKey::unpack(FREE_TAG), None);
-    }
-}

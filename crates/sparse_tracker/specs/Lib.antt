@@ -2,4 +2,3 @@ pub mod ByteStates
 pub mod Kept
 pub mod Weights
 pub mod Places
-pub mod Example

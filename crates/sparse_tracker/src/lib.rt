@@ -5,8 +5,6 @@
 mod gaps;
 mod laws;
 mod status;
-#[cfg(test)]
-mod tests;
 mod tickets;
 mod tracker;
 

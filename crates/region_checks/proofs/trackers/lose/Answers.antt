@@ -1,6 +1,6 @@
 use Rattle.std.proofs.Common.{◌∙◌, ap, refl}
 use Rattle.sparse_tracker.specs.ByteStates.{TrackerView, fail}
-use Rattle.sparse_tracker.proofs.tests.lose.Goals as goal
+use Rattle.region_checks.proofs.trackers.lose.Goals as goal
 
 pub fail-requires : goal.fail-requires
 fail-requires c = rw c.requires refl

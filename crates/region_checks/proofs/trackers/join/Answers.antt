@@ -1,6 +1,6 @@
 use Rattle.std.proofs.Common.{◌∙◌, ap, arith}
 use Rattle.sparse_tracker.specs.ByteStates.{TrackerView, wait_if_pending}
-use Rattle.sparse_tracker.proofs.tests.join.Goals as goal
+use Rattle.region_checks.proofs.trackers.join.Goals as goal
 
 pub wait_if_pending-requires : goal.wait_if_pending-requires
 wait_if_pending-requires c = rw c.requires (omega arith, omega arith)

@@ -1,4 +1,4 @@
--- The tracker of this crate's test, step by step.
+-- A tracker of ten bytes, step by step.
 use Rattle.sparse_tracker.specs.ByteStates.{Tracker, new_tracker, wait_for_range, wait_if_pending, progress, fail}
 
 -- ten bytes claimed by somebody who waits for those at 2 and 3

@@ -1,7 +1,9 @@
+//! A policy of a few regions: the order of candidates, a decay, and when a frequency rises.
+
 ghost use Rattle.std.specs.Prelude.{◌≡◌, ◌<◌};
 ghost use Rattle.region_ranges.specs.Keys.{IsConfig, IsKey};
 
-use crate::{Config, Policy, Tally4};
+use cache_policy::{Config, Policy, Tally4};
 use region_ranges::RegionKey;
 
 // A missing proof of `Send` or `Sync` shows here, and not first at the threads above.

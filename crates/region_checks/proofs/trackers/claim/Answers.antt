@@ -1,6 +1,6 @@
 use Rattle.std.proofs.Common.{◌∙◌, ap, arith}
 use Rattle.sparse_tracker.specs.ByteStates.{TrackerView, wait_for_range}
-use Rattle.sparse_tracker.proofs.tests.claim.Goals as goal
+use Rattle.region_checks.proofs.trackers.claim.Goals as goal
 
 pub wait_for_range-requires-clause-range : goal.wait_for_range-requires-clause-range
 wait_for_range-requires-clause-range c = rw (c.in_ok-reserve.ensures.ok, c.requires) (omega arith)

@@ -2,11 +2,10 @@
 
 ghost use Rattle.std.specs.Prelude.{◌≡◌, OnOk};
 ghost use Rattle.sparse_tracker.specs.ByteStates.{new_tracker};
-ghost use Rattle.sparse_tracker.specs.Example.{claimed, begun, fetched, lost, joined};
+ghost use Rattle.region_checks.specs.TrackerSteps.{claimed, begun, fetched, lost, joined};
 
-use crate::status::{Claim, Gap, Status};
-use crate::tracker::Tracker;
 use region_ranges::ByteRange;
+use sparse_tracker::{Claim, Gap, Status, Tracker};
 use std::alloc::AllocError;
 
 fn claim(tracker: &mut Tracker) -> Result<Claim, AllocError>
@@ -87,5 +86,44 @@ fn a_tracker_of_ten(rt: HostRuntime) -> Result<(), AllocError> {
     assert_eq!(rt; present, Status::Ready);
     let none = join_over_the_border(&mut tracker)?;
     assert_eq!(rt; none, None);
+    Ok(())
+}
+
+// Claims the first byte of so many pairs, and answers how many claims gave the gap and the ticket of their own number,
+// up to the first that did not.
+fn claim_pairs(tracker: &mut Tracker, pairs: u32) -> Result<u32, AllocError> {
+    for id in 0..pairs {
+        let start = 2 * id as u64;
+        let byte = ByteRange {
+            start,
+            end: start + 1,
+        };
+        if byte.end > tracker.len() as u64 {
+            return Ok(id);
+        }
+        tracker.reserve()?;
+        let claim = tracker.wait_for_range(byte, byte)?;
+        let gap = Some(Gap { id, range: byte });
+        if claim != (Claim { gap, ticket: id }) {
+            return Ok(id);
+        }
+    }
+    Ok(pairs)
+}
+
+// The answer of a ticket on the first byte.
+fn join_first(tracker: &mut Tracker) -> Result<Option<u32>, AllocError> {
+    if tracker.len() == 0 {
+        return Ok(None);
+    }
+    tracker.wait_if_pending(ByteRange { start: 0, end: 1 })
+}
+
+// Each claim takes one byte and leaves the next absent, so that no two gaps touch.
+#[test]
+fn a_thousand_open_gaps(rt: HostRuntime) -> Result<(), AllocError> {
+    let mut tracker = Tracker::new(rt.alloc(), 2_000);
+    assert_eq!(rt; claim_pairs(&mut tracker, 1_000)?, 1_000);
+    assert_eq!(rt; join_first(&mut tracker)?, Some(1_000));
     Ok(())
 }
