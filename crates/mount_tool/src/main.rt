@@ -2,19 +2,13 @@
 // written stand in docs/FORMATS.md.
 #![tactic(auto)]
 
-mod line;
 mod program;
-mod refusal;
 mod run;
 mod search;
-mod shown;
 mod write;
 
 use cache_outside::StdSink;
-pub use line::Line;
-pub use refusal::Refusal;
 pub use run::{Outcome, mount_tool};
-pub use shown::Shown;
 
 #[cfg(test)]
 mod tests;

@@ -2,12 +2,13 @@
 ghost use Rattle.std.specs.Prelude.{◌≡◌, ◌<◌, ◌++◌, List, ℕ, length, map, drop, Some, option_map, true, codes, string_bytes};
 ghost use Rattle.mount_tool.specs.Runs.{IsWritten, IsTermRun, IsUsageRun, count_of, is_usage};
 ghost use Rattle.mount_tool.specs.Words.{Term, term_words, texts};
-ghost use Rattle.mount_tool.specs.Replies.{line_text, status_of};
+ghost use Rattle.mount_script.specs.Replies.{text_of};
+ghost use Rattle.mount_tool.specs.Replies.{status_of};
 
-use crate::line::Line;
-use crate::search::term_line;
+use crate::search::term_reply;
 use crate::write::write_all;
 use cache_outside::{Archive, BlobSource, OutError, Sink};
+use mount_script::Reply;
 use std::alloc::Global;
 
 /// How a run ended: the program's status, and the sources that were handed in, in their order.
@@ -45,19 +46,30 @@ fn term_of(words: &[String]) -> Option<TermWords<'_>>
     }
 }
 
-/// Writes a line and its newline, and gives the status: the line's own, 5 where the sink failed, 6 for want of memory.
-fn finish<K: Sink>(alloc: Global, sink: &mut K, line: &Line) -> u8
-    ensures { IsWritten (K.view sink.old) (K.view sink.new)
-        (line_text line.now ++ codes "\n") (status_of line.now) result }
+/// The program's status where a reply was written whole.
+fn status_of(reply: &Reply) -> u8
+    ensures { result ≡ status_of reply.now }
 {
-    let Ok(mut text) = line.text(alloc) else {
+    match reply {
+        Reply::Hits { .. } => 0,
+        Reply::NoMemory => 6,
+        _ => 1,
+    }
+}
+
+/// Writes a reply and a newline, and gives the status: the reply's own, 5 where the sink failed, 6 for want of memory.
+fn finish<K: Sink>(alloc: Global, sink: &mut K, reply: &Reply) -> u8
+    ensures { IsWritten (K.view sink.old) (K.view sink.new)
+        (text_of reply.now ++ codes "\n") (status_of reply.now) result }
+{
+    let Ok(mut text) = reply.text(alloc) else {
         return 6;
     };
-    if text.push('\n').is_err() {
+    if text.push(b'\n').is_err() {
         return 6;
     }
     match write_all(sink, text.as_bytes()) {
-        Ok(()) => line.status(),
+        Ok(()) => status_of(reply),
         Err(OutError::Failed) => 5,
         Err(OutError::NoMemory) => 6,
     }
@@ -76,7 +88,7 @@ fn usage<S: Drop, K: Sink>(sources: Vec<S>, sink: &mut K) -> Outcome<S>
 /// Does what the words say with the first source, and writes what comes of it.
 ///
 /// The words are `term MANIFEST FIELD TERM`. The status is 2 where they are not, or no source is handed in; 5 where
-/// the sink failed; 6 for want of memory; 1 where the line written is a refusal or `fault`; and 0 where it is `hits`.
+/// the sink failed; 6 for want of memory; 1 where the reply written is a refusal or `fault`; and 0 where it is `hits`.
 pub fn mount_tool<A: Archive, S: BlobSource<A> + Drop, K: Sink>(
     alloc: Global,
     words: &[String],
@@ -100,13 +112,13 @@ pub fn mount_tool<A: Archive, S: BlobSource<A> + Drop, K: Sink>(
     if sources.is_empty() {
         return usage(sources, sink);
     }
-    let line = term_line(
+    let reply = term_reply(
         alloc,
         &mut sources[0],
         words.manifest,
         words.field,
         words.term,
     );
-    let status = finish(alloc, sink, &line);
+    let status = finish(alloc, sink, &reply);
     Outcome { status, sources }
 }

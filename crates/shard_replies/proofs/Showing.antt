@@ -8,7 +8,7 @@ use Rattle.std.proofs.lemmas.List.Elements.{All-get_or}
 use Rattle.mount_manifest.specs.declared.record.Segment.{Segment}
 use Rattle.shard_search.specs.Answers.{IsHitOf, pair_of}
 use Rattle.shard_search.specs.declared.hits.Hit.{Hit}
-use Rattle.mount_tool.specs.Terms.{named, segment_name}
+use Rattle.shard_replies.specs.ExpectedReplies.{shown}
 
 hit_of : (segments : List Segment) (hits : List Hit) (i : ℕ) (h : Hit) → All (IsHitOf segments) hits → slice_get hits i ≡ Some h → IsHitOf segments h
 hit_of segments hits i h all is = subst (IsHitOf segments) (get_or_from_slice_get hits i h h is) (All-get_or (IsHitOf segments) hits i h (slice_get_within hits i h is) all)
@@ -20,11 +20,11 @@ segment_there segments hits i h all is = let own = hit_of segments hits i h all 
 -- one hit more is shown
 pub shown_next : (segments : List Segment) (hits : List Hit) (i : ℕ) (h : Hit) (s : Segment) (before after : List (List ℕ × ℕ)) (name : List ℕ)
     → slice_get hits i ≡ Some h → slice_get segments h.segment ≡ Some s → name ≡ s.name
-    → before ≡ map (named segments) (map pair_of (take i hits)) → after ≡ before ++ (name, h.doc) ∷ []
-    → after ≡ map (named segments) (map pair_of (take (i + 1) hits))
+    → before ≡ map (shown segments) (map pair_of (take i hits)) → after ≡ before ++ (name, h.doc) ∷ []
+    → after ≡ map (shown segments) (map pair_of (take (i + 1) hits))
 shown_next segments hits i h s before after name is there same sofar now =
-    let own : (name, h.doc) ≡ named segments (pair_of h) = ap (λ n. (n, h.doc)) (same ∙ sym (ap (λ o. option_map_or (λ (x : Segment). x.name) o []) there)) in
+    let own : (name, h.doc) ≡ shown segments (pair_of h) = ap (λ n. (n, h.doc)) (same ∙ sym (ap (λ o. option_map_or (λ (x : Segment). x.name) o []) there)) in
     let more : take (i + 1) hits ≡ take i hits ++ h ∷ [] = take_more hits i h (slice_get_within hits i h is) ∙ ap (λ x. take i hits ++ x ∷ []) (get_or_from_slice_get hits i h h is) in
     now
     ∙ ap₂ (λ xs x. xs ++ x ∷ []) sofar own
-    ∙ sym (ap (λ xs. map (named segments) (map pair_of xs)) more ∙ ap (map (named segments)) (map-append pair_of (take i hits) (h ∷ [])) ∙ map-append (named segments) (map pair_of (take i hits)) (pair_of h ∷ []))
+    ∙ sym (ap (λ xs. map (shown segments) (map pair_of xs)) more ∙ ap (map (shown segments)) (map-append pair_of (take i hits) (h ∷ [])) ∙ map-append (shown segments) (map pair_of (take i hits)) (pair_of h ∷ []))

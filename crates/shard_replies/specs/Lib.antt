@@ -1,0 +1,2 @@
+pub mod ExpectedReplies
+pub mod Answers
