@@ -6,12 +6,18 @@ use directory_input::{Input, MemBytes};
 use shard_maker::{Made, can_make, make};
 use simpletext_postings::Dictionary;
 use std::alloc::{AllocError, Global};
+use std::process::Abort;
 use std::test::Fail;
-use text_lines::TextError;
 
-fn made(rt: &HostRuntime, seed: u64, docs: u32, terms: u32) -> Result<Made, Fail> {
+fn made(
+    rt: &impl Abort,
+    alloc: Global,
+    seed: u64,
+    docs: u32,
+    terms: u32,
+) -> Result<Made, AllocError> {
     assert!(rt; can_make(docs, terms));
-    Ok(make(rt.alloc(), seed, docs, terms)?)
+    make(alloc, seed, docs, terms)
 }
 
 /// The bytes of all blobs but the manifest, joined.
@@ -40,7 +46,7 @@ const TERMS: [&str; 12] = [
 ];
 
 /// The pairs of a term and a document of a postings text, by term, as a dictionary finds them.
-fn pairs_of(alloc: Global, text: Vec<u8>, docs: u32) -> Result<Vec<(usize, u32)>, TextError> {
+fn pairs_of(alloc: Global, text: Vec<u8>, docs: u32) -> Result<Vec<(usize, u32)>, Fail> {
     let mut files = file_of(alloc, text)?;
     let input = Input::open(&files, 0);
     let dictionary = Dictionary::open(alloc, &mut files, input, docs)?;
@@ -91,7 +97,7 @@ const DRAWN: [(u64, u32, u32, &[(usize, u32)]); 4] = [
 fn pairs_are_those_that_are_drawn(rt: HostRuntime) -> Result<(), Fail> {
     let alloc = rt.alloc();
     for (seed, docs, terms, wanted) in DRAWN {
-        let made = made(&rt, seed, docs, terms)?;
+        let made = made(&rt, rt.alloc(), seed, docs, terms)?;
         let pairs = pairs_of(alloc, joined(alloc, &made.blobs)?, docs)?;
         assert_eq!(rt; pairs.as_slice(), wanted, "seed {seed}");
         assert_eq!(rt; made.postings, wanted.len() as u64, "seed {seed}");
@@ -105,7 +111,7 @@ fn pairs_are_those_that_are_drawn(rt: HostRuntime) -> Result<(), Fail> {
 #[test]
 fn parts_have_their_sizes(rt: HostRuntime) -> Result<(), Fail> {
     let alloc = rt.alloc();
-    let made = made(&rt, 3, 20_000, 100)?;
+    let made = made(&rt, rt.alloc(), 3, 20_000, 100)?;
     assert_eq!(rt; made.postings, 124_906);
     let count = made.blobs.len();
     assert!(rt; count > 1000);
@@ -132,9 +138,9 @@ search made 10 {"term":{"body":"t00002"}}
 
 #[test]
 fn scripts_have_each_query(rt: HostRuntime) -> Result<(), Fail> {
-    let once = made(&rt, 7, 25, 4)?;
+    let once = made(&rt, rt.alloc(), 7, 25, 4)?;
     assert!(rt; once.script.as_bytes().starts_with(FRONT));
-    let twice = made(&rt, 7, 25, 4)?;
+    let twice = made(&rt, rt.alloc(), 7, 25, 4)?;
     assert_eq!(rt; twice.script.as_bytes(), once.script.as_bytes());
     Ok(())
 }
