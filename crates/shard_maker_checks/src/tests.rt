@@ -32,11 +32,11 @@ fn joined(alloc: Global, blobs: &Blobs) -> Result<Vec<u8>, AllocError> {
     Ok(text)
 }
 
-fn file_of(alloc: Global, bytes: Vec<u8>) -> Result<MemBytes, AllocError>
+fn file_of(alloc: Global, bytes: &[u8]) -> Result<MemBytes, AllocError>
     ensures { IfOk result (λ m. length m.files ≡ 1) }
 {
     let mut files = MemBytes::new(alloc);
-    files.add(bytes)?;
+    files.add(Vec::from_slice(alloc, bytes)?)?;
     Ok(files)
 }
 
@@ -45,16 +45,24 @@ const TERMS: [&str; 12] = [
     "t00009", "t00010", "t00011",
 ];
 
-/// The pairs of a term and a document of a postings text, by term, as a dictionary finds them.
-fn pairs_of(alloc: Global, text: Vec<u8>, docs: u32) -> Result<Vec<(usize, u32)>, Fail> {
+/// The documents of a term, as a dictionary that is opened over a postings text finds them.
+fn docs_with(alloc: Global, text: &[u8], docs: u32, term: &str) -> Result<Vec<u32>, Fail> {
     let mut files = file_of(alloc, text)?;
     let input = Input::open(&files, 0);
     let dictionary = Dictionary::open(alloc, &mut files, input, docs)?;
+    let mut found = Vec::new(alloc);
+    for posting in &dictionary.postings(&mut files, b"body", term.as_bytes())? {
+        found.push(posting.doc)?;
+    }
+    Ok(found)
+}
+
+/// The pairs of a term and a document of a postings text, by term.
+fn pairs_of(alloc: Global, text: &[u8], docs: u32) -> Result<Vec<(usize, u32)>, Fail> {
     let mut pairs = Vec::new(alloc);
     for t in 0..TERMS.len() {
-        let found = dictionary.postings(&mut files, b"body", TERMS[t].as_bytes())?;
-        for posting in &found {
-            pairs.push((t, posting.doc))?;
+        for doc in &docs_with(alloc, text, docs, TERMS[t])? {
+            pairs.push((t, *doc))?;
         }
     }
     Ok(pairs)
@@ -98,7 +106,8 @@ fn pairs_are_those_that_are_drawn(rt: HostRuntime) -> Result<(), Fail> {
     let alloc = rt.alloc();
     for (seed, docs, terms, wanted) in DRAWN {
         let made = made(&rt, rt.alloc(), seed, docs, terms)?;
-        let pairs = pairs_of(alloc, joined(alloc, &made.blobs)?, docs)?;
+        let text = joined(alloc, &made.blobs)?;
+        let pairs = pairs_of(alloc, &text, docs)?;
         assert_eq!(rt; pairs.as_slice(), wanted, "seed {seed}");
         assert_eq!(rt; made.postings, wanted.len() as u64, "seed {seed}");
         assert_eq!(rt; made.blobs.len(), 2, "seed {seed}");
