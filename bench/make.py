@@ -65,7 +65,7 @@ def build(folder, docs, terms):
     (folder / "crates.txt").write_text(lines_of(CRATES))
     for crate in CRATES:
         subprocess.run(["rt", "lib"], cwd=folder / "crates" / crate, check=True, stdout=subprocess.DEVNULL)
-    subprocess.run(["rt", "run"], cwd=source.parent.parent, check=True)
+    subprocess.run(["rt", "run"], cwd=source.parent.parent, check=True, stdout=subprocess.DEVNULL, stderr=subprocess.DEVNULL)
     return source.parent.parent / "out" / "make_once"
 
 
@@ -80,6 +80,7 @@ def main():
     runs = int(sys.argv[3]) if len(sys.argv) > 3 else 5
     with tempfile.TemporaryDirectory() as name:
         program = build(pathlib.Path(name), docs, terms)
+        print(subprocess.run([program], check=True, capture_output=True, text=True).stdout, end="")
         least = None
         for _ in range(runs):
             before, began = spent(), time.monotonic()
