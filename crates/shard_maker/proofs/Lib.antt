@@ -1,0 +1,9 @@
+pub mod Lists
+pub mod Pieces
+pub mod Steps
+pub mod Names
+pub mod Rising
+pub mod Joined
+pub mod Sizes
+pub mod Facts
+pub mod Reading
