@@ -1,6 +1,6 @@
 -- A fetch reads the lines of its document.
-use Rattle.std.proofs.Common.{◌≡◌, ℕ, zero, suc, ◌+◌, ◌-◌, ◌<◌, ◌≤◌, ◌∙◌, ap, ap₂, sym, subst, refl, arith, Bool, List, [], ◌∷◌, length, get_or, take, drop, Ok, Err}
-use Rattle.std.specs.Prelude.{IsTrue, Result, slice_index}
+use Rattle.std.proofs.Common.{◌≡◌, ℕ, zero, suc, ◌+◌, ◌-◌, ◌<◌, ◌≤◌, ◌∙◌, ap, sym, subst, arith, List, [], ◌∷◌, length, get_or, Ok, Err}
+use Rattle.std.specs.Prelude.{Result, slice_index}
 use Rattle.std.proofs.lemmas.Grind.{get_or_default_zero}
 use Rattle.directory_input.specs.Reads.{slice_of}
 use Rattle.directory_input.specs.Files.{FilesView, FilesLater}

@@ -1,7 +1,6 @@
 -- The first line of a text by itself.
-use Rattle.std.proofs.Common.{◌≡◌, ℕ, zero, suc, ◌+◌, ◌-◌, ◌<◌, ◌≤◌, ◌∙◌, ap, sym, subst, refl, arith, Bool, true, false, List, [], ◌∷◌, ◌++◌, length, take, drop}
-use Rattle.std.specs.Prelude.{◌==◌, if◌then◌else◌}
-use Rattle.std.proofs.lemmas.Bool.Decides.{nat_tests}
+use Rattle.std.proofs.Common.{◌≡◌, ℕ, suc, ◌+◌, ◌<◌, ◌≤◌, ◌∙◌, ap, subst, refl, arith, Bool, true, false, List, [], ◌∷◌, ◌++◌, length, take, drop}
+use Rattle.std.specs.Prelude.{◌==◌}
 use Rattle.text_lines.specs.Escapes.{newline, backslash}
 use Rattle.text_lines.specs.Lines.{Taken, Cut, cut, ended, nothing, grown, in_front, in_front_of}
 use Rattle.text_lines.specs.Walks.{taken, then_lines}

@@ -1,37 +1,23 @@
 -- The set of live documents, as their text is read.
-use Rattle.std.proofs.Common.{◌≡◌, ◌≢◌, ℕ, zero, suc, ◌+◌, ◌-◌, ◌<◌, ◌≤◌, ◌∙◌, ap, ap₂, sym, subst, refl, arith, append-nil, append_assoc, inl, inr, Bool, true, false, List, [], ◌∷◌, ◌++◌, length, drop, filter, replicate, Ok, Err}
-use Rattle.std.specs.Prelude.{IsTrue, Option, Some, None, Result, ◌==◌, ◌||◌, ◌&&◌, nat_lt, slice_index_or, slice_set, if◌then◌else◌}
-use Rattle.std.specs.List.{list_any, range_with_len}
+use Rattle.std.proofs.Common.{◌≡◌, ◌≢◌, ℕ, zero, suc, ◌+◌, ◌<◌, ◌≤◌, ◌∙◌, ap, ap₂, sym, subst, refl, arith, append-nil, inl, inr, Bool, true, false, List, [], ◌∷◌, ◌++◌, length, filter, replicate, Ok}
+use Rattle.std.specs.Prelude.{Option, Some, None, ◌==◌, ◌||◌, ◌&&◌, nat_lt, slice_index_or, slice_set}
+use Rattle.std.specs.List.{range_with_len}
 use Rattle.std.proofs.Math.Nat.{eq-or-lt_of_le}
 use Rattle.std.proofs.lemmas.Bool.{and_parts, cases_lt}
 use Rattle.std.proofs.lemmas.Bool.Decides.{nat_tests}
 use Rattle.std.proofs.lemmas.List.{get_or-set_same, get_or-set_other, get_or-replicate, get_or_past, length-replicate, length-set}
 use Rattle.std.proofs.lemmas.List.Folds.{list_any-append}
-use Rattle.text_lines.specs.Readers.{Names, Refuses}
-use Rattle.text_lines.specs.Errors.{text_error}
 use Rattle.text_lines.specs.Words.{is_above}
-use Rattle.text_lines.specs.declared.reader.LineError.{LineError}
-use Rattle.text_lines.specs.declared.reader.LineError.TheVariants.{Unended, TooLong, Bytes}
 use Rattle.doc_bits.specs.Places.{places_of}
 use Rattle.doc_bits.proofs.Lists.{filter-range_same, filter-range_none}
-use Rattle.simpletext_stored.specs.Answers.{Breaks}
 use Rattle.simpletext_stored.specs.Reading.{Lines, lines_of, map_ok}
-use Rattle.simpletext_stored.specs.Live.{form_of, last, last_doc, is_listing, is_allowed, is_checksum_line, may_end, doc_numbers, live}
-use Rattle.simpletext_stored.specs.Listing.{IsLiveState, LiveStep, IsDocWithin, with_doc}
+use Rattle.simpletext_stored.specs.Live.{form_of, last, last_doc, is_listing, is_allowed, may_end, doc_numbers, live}
+use Rattle.simpletext_stored.specs.Listing.{IsLiveState, LiveStep, IsDocWithin, HoldsLive, IsSetOf, RiseWithin, bound, is_in, with_doc}
 use Rattle.simpletext_stored.specs.declared.live_form.LiveForm.{LiveForm}
 use Rattle.simpletext_stored.specs.declared.live_form.LiveForm.TheVariants.{Size, Doc, End, Checksum, Unknown}
 use Rattle.simpletext_stored.specs.declared.live_state.LiveState.{LiveState}
-use Rattle.simpletext_stored.proofs.Loop.{Reached, IsLine, begin, more, refused, not_a_line, ended, ended_early}
 
 -- ---- numbers that rise
-
-abbrev is_in : List ℕ → ℕ → Bool
-is_in numbers i = list_any (λ n. n == i) numbers
-
--- numbers from `low` on and below `high`, each above the one before
-abbrev RiseWithin : ℕ → ℕ → List ℕ → Type 0
-RiseWithin low high [] = Unit {0}
-RiseWithin low high (d ∷ ds) = (low ≤ d) × (d < high) × RiseWithin (d + 1) high ds
 
 rise_more : (low high n : ℕ) (ds : List ℕ) → low ≤ n → high ≤ n → RiseWithin low high ds → RiseWithin low (n + 1) (ds ++ n ∷ [])
 rise_more low high n [] least above h = (least, omega arith, tt)
@@ -88,20 +74,9 @@ rising_filter (suc len) lo high (d ∷ ds) e h =
 
 -- ---- the set
 
--- the documents below which the next one may not be
-abbrev bound : Option ℕ → ℕ
-bound None = 0
-bound (Some m) = m + 1
-
 bound_fits : (doc : Option ℕ) (n : ℕ) → is_above doc n ≡ true → bound doc ≤ n
 bound_fits None n h = omega arith
 bound_fits (Some m) n h = grind (arith, nat_tests)
-
--- the set has these numbers, which rise
-pub record IsSetOf (docs : ℕ) (doc : Option ℕ) (numbers : List ℕ) (bits : List Bool) : Type 0 where
-  pub rising : RiseWithin 0 (bound doc) numbers
-  pub bounded : bound doc ≤ docs
-  pub same : (i : ℕ) → slice_index_or bits i false ≡ is_in numbers i
 
 none_in : (docs i : ℕ) → slice_index_or (replicate docs false) i false ≡ false
 none_in docs i = elim (cases_lt i docs) [
@@ -149,22 +124,8 @@ set_places docs doc numbers bits len h =
 
 -- ---- the text
 
-abbrev pub ReachedLive : ℕ → List ℕ → List LiveForm → Lines LiveForm → ℕ → Type 0
-ReachedLive docs text past kept at = Reached form_of (is_allowed docs) may_end text past kept at
-
-pub record Listed (docs : ℕ) (tells : Bool) (text : List ℕ) (past : List LiveForm) (state : LiveState) (bits : List Bool) (at : ℕ) : Type 0 where
-  pub is : IsLiveState past state
-  pub size : length bits ≡ docs
-  pub told : IsTrue tells → (kept : Lines LiveForm) × ReachedLive docs text past kept at × IsSetOf docs (last_doc past) (doc_numbers kept) bits
-
-pub none_listed : (docs : ℕ) (tells : Bool) (text : List ℕ) (state : LiveState) (bits : List Bool) (at : ℕ)
-    → IsLiveState [] state → bits ≡ replicate docs false → at ≡ 0 → Listed docs tells text [] state bits at
-none_listed docs tells text state bits at is none start =
-    rw start (record {
-      is = is;
-      size = rw none (length-replicate docs false);
-      told = λ t. ([], begin form_of (is_allowed docs) may_end text, empty_set docs bits none);
-    })
+pub none_listed : (docs : ℕ) (state : LiveState) (bits : List Bool) → IsLiveState [] state → bits ≡ replicate docs false → HoldsLive docs [] [] state bits
+none_listed docs state bits is none = record { is = is; size = rw none (length-replicate docs false); set = empty_set docs bits none }
 
 doc_numbers-append : (xs ys : Lines LiveForm) → doc_numbers (xs ++ ys) ≡ doc_numbers xs ++ doc_numbers ys
 doc_numbers-append [] ys = refl
@@ -201,47 +162,19 @@ set_after docs past numbers bits at End content len may h = rw append-nil h
 set_after docs past numbers bits at Checksum content len may h = rw append-nil h
 set_after docs past numbers bits at Unknown content len may h = rw append-nil h
 
-breaks_also : (r : Result (Lines LiveForm) ℕ) (e : LineError) → Breaks r (text_error e) → Breaks (map_ok doc_numbers r) (text_error e)
-breaks_also r (Unended p) h = ap (map_ok doc_numbers) h
-breaks_also r (TooLong p) h = ap (map_ok doc_numbers) h
-breaks_also r (Bytes e) h = tt
-
-module _ (docs : ℕ) (tells : Bool) (text : List ℕ) (past : List LiveForm) (state : LiveState) (bits : List Bool) (at : ℕ) (listed : Listed docs tells text past state bits at) where
-  module _ (content : List ℕ) (now : ℕ) (moved : at < now) (line : IsTrue tells → IsLine text at content now) (new : LiveState) where
-    pub line_listed : (b : Bool) → b ≡ true → LiveStep docs past (form_of content) new b → Listed docs tells text (form_of content ∷ past) new (with_doc (form_of content) bits) now
-    line_listed b so step = record {
-      is = step.after so;
-      size = with_doc_length (form_of content) bits ∙ listed.size;
-      told = λ t.
-          let (kept, reached, same) = listed.told t in
-          let l = line t in
-          let own = (at, form_of content, content) ∷ [] in
-          let may = sym step.same ∙ so in (
-            kept ++ own,
-            more form_of (is_allowed docs) may_end text past kept at reached content now l.cuts l.fits moved may,
-            subst (λ ns. IsSetOf docs (last_doc (form_of content ∷ past)) ns (with_doc (form_of content) bits)) (sym (doc_numbers-append kept own))
-                (set_after docs past (doc_numbers kept) bits at (form_of content) content listed.size may same),
-          );
+pub line_listed : (docs : ℕ) (past : List LiveForm) (kept : Lines LiveForm) (at : ℕ) (state : LiveState) (bits : List Bool) → HoldsLive docs past kept state bits
+    → (content : List ℕ) (new : LiveState) → LiveStep docs past (form_of content) new true
+    → HoldsLive docs (form_of content ∷ past) (kept ++ (at, form_of content, content) ∷ []) new (with_doc (form_of content) bits)
+line_listed docs past kept at state bits held content new step =
+    let own = (at, form_of content, content) ∷ [] in
+    record {
+      is = step.after refl;
+      size = with_doc_length (form_of content) bits ∙ held.size;
+      set = subst (λ ns. IsSetOf docs (last_doc (form_of content ∷ past)) ns (with_doc (form_of content) bits)) (sym (doc_numbers-append kept own))
+          (set_after docs past (doc_numbers kept) bits at (form_of content) content held.size (sym step.same) held.set);
     }
 
-    pub line_refused : (b : Bool) → b ≡ false → LiveStep docs past (form_of content) new b → IsTrue tells → live text docs ≡ Err at
-    line_refused b so step t =
-        let (kept, reached, same) = listed.told t in
-        let l = line t in
-        ap (map_ok doc_numbers) (refused form_of (is_allowed docs) may_end text past kept at reached content now l.cuts l.fits (sym step.same ∙ so))
-
-  pub no_line : (e : LineError) → IsTrue tells → Names at e → Refuses e (drop at text) → Breaks (live text docs) (text_error e)
-  no_line e t named refuses =
-      let (kept, reached, same) = listed.told t in
-      breaks_also _ e (not_a_line form_of (is_allowed docs) may_end text past kept at reached e named refuses)
-
-  pub all_listed : is_checksum_line state.last ≡ true → IsTrue tells → drop at text ≡ [] → live text docs ≡ Ok (places_of bits)
-  all_listed done t none =
-      let (kept, reached, same) = listed.told t in
-      ap (map_ok doc_numbers) (ended form_of (is_allowed docs) may_end text past kept at reached none (ap is_checksum_line (sym listed.is.last_is) ∙ done))
-      ∙ ap Ok (sym (set_places docs (last_doc past) (doc_numbers kept) bits listed.size same))
-
-  pub not_all_listed : is_checksum_line state.last ≡ false → IsTrue tells → drop at text ≡ [] → live text docs ≡ Err at
-  not_all_listed more_due t none =
-      let (kept, reached, same) = listed.told t in
-      ap (map_ok doc_numbers) (ended_early form_of (is_allowed docs) may_end text past kept at reached none (ap is_checksum_line (sym listed.is.last_is) ∙ more_due))
+pub all_listed : (docs : ℕ) (text : List ℕ) (past : List LiveForm) (kept : Lines LiveForm) (state : LiveState) (bits : List Bool) → HoldsLive docs past kept state bits
+    → lines_of form_of (is_allowed docs) may_end text ≡ Ok kept → live text docs ≡ Ok (places_of bits)
+all_listed docs text past kept state bits held is =
+    ap (map_ok doc_numbers) is ∙ ap Ok (sym (set_places docs (last_doc past) (doc_numbers kept) bits held.size held.set))

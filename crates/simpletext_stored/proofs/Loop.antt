@@ -1,18 +1,16 @@
 -- A text as it is read line by line, by any table.
-use Rattle.std.proofs.Common.{◌≡◌, ℕ, ◌+◌, ◌-◌, ◌<◌, ◌≤◌, ◌∙◌, ap, sym, subst, refl, arith, append_assoc, append-nil, Bool, true, false, List, [], ◌∷◌, ◌++◌, length, drop, Ok, Err}
-use Rattle.std.specs.Prelude.{Result, nat_lt, ◌==◌, ◌&&◌, if◌then◌else◌}
+use Rattle.std.proofs.Common.{◌≡◌, ℕ, ◌+◌, ◌-◌, ◌<◌, ◌≤◌, ◌∙◌, ap, sym, subst, refl, arith, append_assoc, append-nil, Bool, true, false, List, [], ◌∷◌, ◌++◌, drop, Ok, Err}
+use Rattle.std.specs.Prelude.{IsTrue, Result, nat_lt, ◌==◌}
 use Rattle.std.proofs.lemmas.Bool.Decides.{nat_tests}
 use Rattle.text_lines.specs.Lines.{Taken, Cut, cut}
 use Rattle.text_lines.specs.Walks.{taken, then_lines, first_size}
 use Rattle.directory_input.specs.Windows.{Window, moved_to, window_bytes}
-use Rattle.text_lines.specs.Readers.{line_limit, Names, Refuses, GivesLine, Places, rest, line_answer, error_refusal}
+use Rattle.text_lines.specs.Readers.{Names, Refuses, GivesLine, Places, rest, line_answer, error_refusal}
 use Rattle.text_lines.specs.declared.reader.Line.{Line}
 use Rattle.text_lines.specs.Errors.{text_error, bytes_refusal}
 use Rattle.text_lines.specs.declared.reader.LineError.{LineError}
 use Rattle.text_lines.specs.declared.reader.LineError.TheVariants.{Unended, TooLong, Bytes}
-use Rattle.text_lines.specs.declared.errors.TextError.{TextError}
-use Rattle.text_lines.specs.declared.errors.TextError.TheVariants.{Bad, Bytes as OfBytes}
-use Rattle.simpletext_stored.specs.Reading.{Lines, in_front, lines_after, lines_of, map_ok}
+use Rattle.simpletext_stored.specs.Reading.{Lines, Takes, Holds, in_front, lines_after, lines_of}
 use Rattle.simpletext_stored.specs.Answers.{Breaks}
 
 -- lines in front of those that come
@@ -104,6 +102,52 @@ module _ {F : Type 0} (form : List ℕ → F) (allowed : List F → F → Bool) 
 pub record IsLine (text : List ℕ) (at : ℕ) (content : List ℕ) (now : ℕ) : Type 0 where
   pub cuts : cut (drop at text) ≡ then_lines (taken content (now - at)) (cut (drop now text))
   pub fits : now - at ≤ 16777216
+
+-- ---- what a reader holds
+
+module _ {F S : Type 0} (form : List ℕ → F) (allowed : List F → F → Bool) (may_end : List F → Bool) (holds : List F → Lines F → ℕ → S → Type 0) where
+  -- lines up to the place `at`; where the text is told, they are its own
+  pub record SoFar (tells : Bool) (text : List ℕ) (at : ℕ) (state : S) : Type 0 where
+    pub past : List F
+    pub kept : Lines F
+    pub held : holds past kept at state
+    pub told : IsTrue tells → Reached form allowed may_end text past kept at
+
+  pub none_so_far : (tells : Bool) (text : List ℕ) (at : ℕ) (state : S) → holds [] [] 0 state → at ≡ 0 → SoFar tells text at state
+  none_so_far tells text at state empty start =
+      rw start (record { past = []; kept = []; held = empty; told = λ t. begin form allowed may_end text })
+
+  module _ (tells : Bool) (text : List ℕ) (at : ℕ) (state : S) (so_far : SoFar tells text at state) where
+    module _ (content : List ℕ) (now : ℕ) (moved : at < now) (line : IsTrue tells → IsLine text at content now) (new : S) where
+      pub line_taken : (b : Bool) → b ≡ true → Takes form allowed holds so_far.past so_far.kept at content new b → SoFar tells text now new
+      line_taken b so step = record {
+        past = form content ∷ so_far.past;
+        kept = so_far.kept ++ (at, form content, content) ∷ [];
+        held = step.after so now (omega arith);
+        told = λ t.
+            let l = line t in
+            more form allowed may_end text so_far.past so_far.kept at (so_far.told t) content now l.cuts l.fits moved (sym step.same ∙ so);
+      }
+
+      pub line_refused : (b : Bool) → b ≡ false → Takes form allowed holds so_far.past so_far.kept at content new b → IsTrue tells → lines_of form allowed may_end text ≡ Err at
+      line_refused b so step t =
+          let l = line t in
+          refused form allowed may_end text so_far.past so_far.kept at (so_far.told t) content now l.cuts l.fits (sym step.same ∙ so)
+
+    pub no_line : (e : LineError) → IsTrue tells → Names at e → Refuses e (drop at text) → Breaks (lines_of form allowed may_end text) (text_error e)
+    no_line e t named refuses = not_a_line form allowed may_end text so_far.past so_far.kept at (so_far.told t) e named refuses
+
+    pub all_held : (size : ℕ) → at ≡ size → may_end so_far.past ≡ true → (IsTrue tells → drop at text ≡ []) → Holds may_end holds tells (lines_of form allowed may_end text) size state
+    all_held size is may none = record {
+      past = so_far.past;
+      kept = so_far.kept;
+      held = rw (sym is) so_far.held;
+      ends = may;
+      lines = λ t. ended form allowed may_end text so_far.past so_far.kept at (so_far.told t) (none t) may;
+    }
+
+    pub not_all_held : may_end so_far.past ≡ false → IsTrue tells → drop at text ≡ [] → lines_of form allowed may_end text ≡ Err at
+    not_all_held may t none = ended_early form allowed may_end text so_far.past so_far.kept at (so_far.told t) none may
 
 -- ---- what a reader's call says
 

@@ -1,5 +1,5 @@
 -- The lines of each document by themselves say what they say in the whole text.
-use Rattle.std.proofs.Common.{◌≡◌, ℕ, zero, suc, ◌+◌, ◌-◌, ◌<◌, ◌≤◌, ◌∙◌, ap, ap₂, sym, subst, refl, arith, Bool, true, false, List, [], ◌∷◌, ◌++◌, length, take, drop, Ok, Err}
+use Rattle.std.proofs.Common.{◌≡◌, ℕ, zero, suc, ◌+◌, ◌-◌, ◌<◌, ◌≤◌, ◌∙◌, ap, sym, subst, refl, arith, Bool, true, false, List, [], ◌∷◌, ◌++◌, length, take, drop, Ok, Err}
 use Rattle.std.specs.Prelude.{Option, Some, None, Result, ◌==◌, ◌&&◌, ◌||◌, nat_lt, if◌then◌else◌, slice_index, slice_get}
 use Rattle.std.proofs.Math.Seq.{take-add}
 use Rattle.std.proofs.lemmas.List.{length-drop}
@@ -7,7 +7,7 @@ use Rattle.std.proofs.lemmas.Bool.{and_parts}
 use Rattle.std.proofs.lemmas.Bool.Decides.{nat_tests}
 use Rattle.directory_input.specs.Reads.{slice_of}
 use Rattle.directory_input.proofs.Slices.{drop_drop}
-use Rattle.text_lines.specs.Lines.{Taken, Cut, cut, nothing}
+use Rattle.text_lines.specs.Lines.{Taken, Cut, cut}
 use Rattle.text_lines.specs.Walks.{then_lines}
 use Rattle.simpletext_stored.specs.Reading.{Lines, in_front, lines_after, lines_of, map_ok}
 use Rattle.simpletext_stored.specs.Stored.{form_of, last, doc_count, is_start, is_between, is_field, is_name, is_type, is_end, is_checksum_line, is_allowed, may_end, own_fields, documents, line_places}

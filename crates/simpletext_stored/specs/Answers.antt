@@ -1,5 +1,5 @@
 -- What the calls of this crate answer.
-use Rattle.std.specs.Prelude.{ℕ, ◌≡◌, ◌<◌, ◌≤◌, ◌+◌, ◌-◌, Bool, true, false, IsTrue, List, [], ◌∷◌, length, slice_get, slice_index, Option, Some, None, Result, Ok, Err}
+use Rattle.std.specs.Prelude.{ℕ, ◌≡◌, ◌<◌, ◌≤◌, ◌+◌, ◌-◌, Bool, IsTrue, List, slice_get, slice_index, Option, Some, None, Result, Ok, Err}
 use Rattle.directory_input.specs.Files.{FilesView}
 use Rattle.directory_input.specs.Windows.{Window, FitsFile, part_of, window_bytes}
 use Rattle.directory_input.specs.declared.files.BytesError.{BytesError}

@@ -1,8 +1,8 @@
 -- Reading texts line by line: what is kept, and the lines of one document by themselves.
-use Rattle.std.specs.Prelude.{ℕ, ◌≡◌, ◌<◌, ◌≤◌, ◌+◌, ◌-◌, ◌^◌, ◌==◌, ◌&&◌, ◌||◌, Bool, true, false, List, [], ◌∷◌, ◌++◌, length, drop, slice_index, Option, Some, None, Result, Ok, Err}
+use Rattle.std.specs.Prelude.{ℕ, ◌≡◌, ◌≤◌, ◌+◌, ◌==◌, ◌&&◌, ◌||◌, Bool, true, false, List, [], ◌∷◌, ◌++◌, length, drop, Option, Result}
 use Rattle.directory_input.specs.Windows.{Window}
 use Rattle.simpletext_stored.specs.Reading.{Lines, lines_of, map_ok}
-use Rattle.simpletext_stored.specs.Stored.{form_of, last, doc_count, is_allowed, is_start, is_between, is_field, is_name, is_type, is_end, is_checksum_line}
+use Rattle.simpletext_stored.specs.Stored.{form_of, line_places, last, doc_count, is_allowed, is_start, is_between, is_field, is_name, is_type, is_end, is_checksum_line}
 use Rattle.simpletext_stored.specs.declared.field.Kind.{Kind}
 use Rattle.simpletext_stored.specs.declared.field.Kind.TheVariants.{Str}
 use Rattle.simpletext_stored.specs.declared.field.StoredField.{StoredField}
@@ -73,3 +73,9 @@ pub record Step (docs : ℕ) (past : List Form) (at : ℕ) (form : Form) (old ne
   pub same : answer ≡ is_allowed docs past form
   pub after : answer ≡ true → IsStateOf docs (form ∷ past) new
   pub places : answer ≡ true → new.places.items ≡ old.places.items ++ own_place at form
+
+-- what is held of the lines in `kept`, where the next one begins at the place `at`
+pub record HoldsPlaces (docs : ℕ) (past : List Form) (kept : Lines Form) (at : ℕ) (state : State) : Type 0 where
+  pub is : IsStateOf docs past state
+  pub rising : AreRising state.places.items at
+  pub places : state.places.items ≡ line_places kept

@@ -12,13 +12,14 @@ ghost use Rattle.simpletext_stored.specs.declared.form.Form.{Form};
 ghost use Rattle.simpletext_stored.specs.declared.field.Kind.{Kind};
 
 use crate::form::{Form, form_of};
+use crate::reading::{LineTable, read_lines};
 use crate::state::{is_between, is_field, is_name, is_type};
 use crate::words::behind;
 use crate::{Kind, StoredField};
 use byte_text::Text;
 use directory_input::{FileBytes, Input};
 use std::alloc::{AllocError, Global};
-use text_lines::{Line, LineReader, TextError};
+use text_lines::TextError;
 
 /// The last line, the fields that are whole, and the name and the kind that were last read.
 #[derive(Drop)]
@@ -77,7 +78,7 @@ impl Document {
     }
 
     /// Takes a line with this content; false where it may not stand here in document `doc`.
-    pub fn take(&mut self, alloc: Global, doc: u32, content: &[u8]) -> Result<bool, AllocError>
+    fn take(&mut self, alloc: Global, doc: u32, content: &[u8]) -> Result<bool, AllocError>
         ensures { (past : List Form) → self.old.last ≡ last past
             → IfOk result (StepsOn doc past content.now self.old self.new) }
     {
@@ -93,6 +94,36 @@ impl Document {
         }
         self.last = Some(form);
         Ok(true)
+    }
+}
+
+impl LineTable for Document {
+    ghost use Rattle.simpletext_stored.specs.Stored.{form_of};
+    ghost use Rattle.simpletext_stored.specs.Steps.{is_own, is_whole};
+    ghost use Rattle.simpletext_stored.specs.Documents.{HoldsDocument};
+
+    type Form = Form;
+
+    ghost form = { form_of };
+
+    ghost allows = { is_own };
+
+    ghost ends = { is_whole };
+
+    ghost holds = { λ doc past kept at document. HoldsDocument past kept document };
+
+    fn take_line(
+        &mut self,
+        alloc: Global,
+        doc: u32,
+        _: u64,
+        content: &[u8],
+    ) -> Result<bool, AllocError> {
+        self.take(alloc, doc, content)
+    }
+
+    fn can_end(&self) -> bool {
+        is_between(self.last)
     }
 }
 
@@ -112,25 +143,6 @@ pub fn read_document<B: FileBytes>(
     ensures pieces { ReadsPieces B.goes_by input bytes.old bytes.new }
     ensures cause { HasBytesCause (B.view bytes.old) (B.view bytes.new) (text_refusal result) }
 {
-    let mut reader = LineReader::new(alloc, input)?;
-    let mut line = Line {
-        at: 0,
-        content: Text::new(alloc),
-    };
-    let mut document = Document::new(alloc);
-    'lines: loop {
-        match reader.next_in(bytes, &mut line) {
-            Ok(true) => {}
-            Ok(false) => break 'lines,
-            Err(e) => return Err(TextError::from(e)),
-        }
-        if !document.take(alloc, doc, line.content.as_bytes())? {
-            return Err(TextError::Bad { at: line.at });
-        }
-    }
-    if is_between(document.last) {
-        Ok(document.fields)
-    } else {
-        Err(TextError::Bad { at: reader.pos() })
-    }
+    let document = read_lines(alloc, bytes, input, doc, Document::new(alloc))?;
+    Ok(document.fields)
 }

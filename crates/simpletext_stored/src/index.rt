@@ -9,14 +9,13 @@ ghost use Rattle.simpletext_stored.specs.Steps.{IsIndexed};
 ghost use Rattle.simpletext_stored.specs.Answers.{FitsStored, Opens, Breaks, HasDocument, IsNotBad, KnowsDocs, lines_of_document, stored_refusal};
 
 use crate::document::read_document;
-use crate::form::form_of;
+use crate::reading::read_lines;
 use crate::state::State;
 use crate::{StoredError, StoredField};
-use byte_text::Text;
 use directory_input::{FileBytes, Input};
 use std::alloc::Global;
 use std::marker::Model;
-use text_lines::{Line, LineReader, TextError};
+use text_lines::TextError;
 
 /// The bytes from the place `at` on, of which the input has so many.
 fn part(input: &Input, at: u64, len: u64) -> Input
@@ -54,27 +53,8 @@ fn read_places<B: FileBytes>(
     ensures pieces { ReadsPieces B.goes_by input bytes.old bytes.new }
     ensures cause { HasBytesCause (B.view bytes.old) (B.view bytes.new) (text_refusal result) }
 {
-    let mut reader = LineReader::new(alloc, input)?;
-    let mut line = Line {
-        at: 0,
-        content: Text::new(alloc),
-    };
-    let mut state = State::new(alloc);
-    'lines: loop {
-        match reader.next_in(bytes, &mut line) {
-            Ok(true) => {}
-            Ok(false) => break 'lines,
-            Err(e) => return Err(TextError::from(e)),
-        }
-        if !state.take(docs, line.at, form_of(line.content.as_bytes()))? {
-            return Err(TextError::Bad { at: line.at });
-        }
-    }
-    if state.is_done() {
-        Ok(state.places)
-    } else {
-        Err(TextError::Bad { at: reader.pos() })
-    }
+    let state = read_lines(alloc, bytes, input, docs, State::new(alloc))?;
+    Ok(state.places)
 }
 
 /// Where the lines of each document stand in a text of stored fields, after Lucene SimpleText. It keeps one number a

@@ -9,6 +9,7 @@ mod index;
 mod live_form;
 mod live_state;
 mod live_text;
+mod reading;
 mod state;
 mod words;
 

@@ -35,7 +35,7 @@ fn is_end(last: Option<LiveForm>) -> bool
     matches!(last, Some(LiveForm::End))
 }
 
-fn is_checksum_line(last: Option<LiveForm>) -> bool
+pub fn is_checksum_line(last: Option<LiveForm>) -> bool
     ensures { result ≡ is_checksum_line last }
 {
     matches!(last, Some(LiveForm::Checksum))
@@ -76,12 +76,5 @@ impl LiveState {
         }
         self.last = Some(form);
         true
-    }
-
-    /// Whether the last line is the checksum line.
-    pub fn is_done(&self) -> bool
-        ensures { result ≡ is_checksum_line self.now.last }
-    {
-        is_checksum_line(self.last)
     }
 }

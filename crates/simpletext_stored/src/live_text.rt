@@ -10,12 +10,12 @@ ghost use Rattle.simpletext_stored.specs.Listing.{IsDocWithin, with_doc};
 
 use crate::index::whole;
 use crate::live_form::{LiveForm, form_of};
-use crate::live_state::LiveState;
-use byte_text::Text;
+use crate::live_state::{LiveState, is_checksum_line};
+use crate::reading::{LineTable, read_lines};
 use directory_input::{FileBytes, Input};
 use doc_bits::DocBits;
-use std::alloc::Global;
-use text_lines::{Line, LineReader, TextError};
+use std::alloc::{AllocError, Global};
+use text_lines::TextError;
 
 /// Puts the document of a `doc` line into the set.
 fn list(bits: &mut DocBits, form: LiveForm)
@@ -24,6 +24,47 @@ fn list(bits: &mut DocBits, form: LiveForm)
 {
     if let LiveForm::Doc(number) = form {
         bits.set(number);
+    }
+}
+
+/// What the lines so far say of the next one, and the documents that they list.
+#[derive(Drop)]
+struct LiveList {
+    state: LiveState,
+    bits: DocBits,
+}
+
+impl LineTable for LiveList {
+    ghost use Rattle.simpletext_stored.specs.Live.{form_of, is_allowed, may_end};
+    ghost use Rattle.simpletext_stored.specs.Listing.{HoldsLive};
+
+    type Form = LiveForm;
+
+    ghost form = { form_of };
+
+    ghost allows = { is_allowed };
+
+    ghost ends = { may_end };
+
+    ghost holds = { λ docs past kept at list. HoldsLive docs past kept list.state list.bits };
+
+    fn take_line(
+        &mut self,
+        _: Global,
+        docs: u32,
+        _: u64,
+        content: &[u8],
+    ) -> Result<bool, AllocError> {
+        let form = form_of(content);
+        if !self.state.take(docs, form) {
+            return Ok(false);
+        }
+        list(&mut self.bits, form);
+        Ok(true)
+    }
+
+    fn can_end(&self) -> bool {
+        is_checksum_line(self.state.last)
     }
 }
 
@@ -42,30 +83,12 @@ fn read_live<B: FileBytes>(
     ensures pieces { ReadsPieces B.goes_by input bytes.old bytes.new }
     ensures cause { HasBytesCause (B.view bytes.old) (B.view bytes.new) (text_refusal result) }
 {
-    let mut bits = DocBits::zeros(alloc, docs)?;
-    let mut reader = LineReader::new(alloc, input)?;
-    let mut line = Line {
-        at: 0,
-        content: Text::new(alloc),
+    let empty = LiveList {
+        state: LiveState::new(),
+        bits: DocBits::zeros(alloc, docs)?,
     };
-    let mut state = LiveState::new();
-    'lines: loop {
-        match reader.next_in(bytes, &mut line) {
-            Ok(true) => {}
-            Ok(false) => break 'lines,
-            Err(e) => return Err(TextError::from(e)),
-        }
-        let form = form_of(line.content.as_bytes());
-        if !state.take(docs, form) {
-            return Err(TextError::Bad { at: line.at });
-        }
-        list(&mut bits, form);
-    }
-    if state.is_done() {
-        Ok(bits)
-    } else {
-        Err(TextError::Bad { at: reader.pos() })
-    }
+    let whole = read_lines(alloc, bytes, input, docs, empty)?;
+    Ok(whole.bits)
 }
 
 /// The live documents of a segment of `docs` documents, from the whole text of the input, read in one pass: those that

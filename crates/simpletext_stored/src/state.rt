@@ -4,7 +4,8 @@ ghost use Rattle.simpletext_stored.specs.Stored.{last, doc_count, is_allowed, is
 ghost use Rattle.simpletext_stored.specs.Steps.{IsStateOf, Step, is_over};
 ghost use Rattle.simpletext_stored.specs.declared.form.Form.{Form};
 
-use crate::form::Form;
+use crate::form::{Form, form_of};
+use crate::reading::LineTable;
 use std::alloc::{AllocError, Global};
 
 /// The last line, and where each document's `doc` line and the END line begin.
@@ -87,8 +88,8 @@ impl State {
         }
     }
 
-    /// Takes a line that begins at the place `at`; false where it may not stand here.
-    pub fn take(&mut self, docs: u32, at: u64, form: Form) -> Result<bool, AllocError>
+    /// Takes a line of a form that begins at the place `at`; false where it may not stand here.
+    fn take(&mut self, docs: u32, at: u64, form: Form) -> Result<bool, AllocError>
         ensures { (past : List Form) → IsStateOf docs past self.old
             → IfOk result (Step docs past at form self.old self.new) }
     {
@@ -101,11 +102,33 @@ impl State {
         self.last = Some(form);
         Ok(true)
     }
+}
 
-    /// Whether the last line is the checksum line.
-    pub fn is_done(&self) -> bool
-        ensures { result ≡ is_checksum_line self.now.last }
-    {
+impl LineTable for State {
+    ghost use Rattle.simpletext_stored.specs.Stored.{form_of, is_allowed, may_end};
+    ghost use Rattle.simpletext_stored.specs.Steps.{HoldsPlaces};
+
+    type Form = Form;
+
+    ghost form = { form_of };
+
+    ghost allows = { is_allowed };
+
+    ghost ends = { may_end };
+
+    ghost holds = { λ docs past kept at state. HoldsPlaces docs past kept at state };
+
+    fn take_line(
+        &mut self,
+        _: Global,
+        docs: u32,
+        at: u64,
+        content: &[u8],
+    ) -> Result<bool, AllocError> {
+        self.take(docs, at, form_of(content))
+    }
+
+    fn can_end(&self) -> bool {
         is_checksum_line(self.last)
     }
 }

@@ -1,8 +1,6 @@
-use Rattle.std.proofs.Common.{◌≡◌, ◌≤◌, ◌<◌, ◌+◌, ◌-◌, ◌∙◌, ap₂, sym, arith, length}
-use Rattle.std.specs.Prelude.{slice_index}
-use Rattle.directory_input.specs.Windows.{Window, part_of}
-use Rattle.simpletext_stored.specs.Answers.{StoredPlaces, lines_of_document}
-use Rattle.simpletext_stored.specs.Steps.{IsIndexed}
+use Rattle.std.proofs.Common.{◌≤◌, ◌<◌, ◌+◌, ◌-◌, ◌∙◌, ap₂, sym, arith, length}
+use Rattle.directory_input.specs.Windows.{part_of}
+use Rattle.simpletext_stored.specs.Answers.{StoredPlaces}
 use Rattle.simpletext_stored.proofs.Fetched.{stored_fits_later, between, place_is, part_fits, fetched, never}
 use Rattle.simpletext_stored.proofs.index.StoredIndex.fetch.Goals as goal
 

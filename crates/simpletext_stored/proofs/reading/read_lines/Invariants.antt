@@ -1,12 +1,9 @@
-use Rattle.std.proofs.Common.{◌≡◌, ◌≤◌, ◌+◌, ◌-◌, None}
+use Rattle.std.proofs.Common.{◌≡◌, ◌-◌, None}
 use Rattle.directory_input.specs.Causes.{HasBytesCause}
-use Rattle.std.specs.Prelude.{IsTrue}
 use Rattle.directory_input.specs.Windows.{moved_to, window_bytes}
 use Rattle.text_lines.specs.Readers.{FitsBytes, ReadsPieces}
-use Rattle.std.proofs.Common.{List}
-use Rattle.simpletext_stored.specs.declared.form.Form.{Form}
-use Rattle.simpletext_stored.proofs.Placed.{Placed}
-use Rattle.simpletext_stored.proofs.index.read_places.Given as goal
+use Rattle.simpletext_stored.proofs.Loop.{SoFar}
+use Rattle.simpletext_stored.proofs.reading.read_lines.Given as goal
 
 abbrev pub invariant-lines : goal.invariant-lines
 invariant-lines g l = record {
@@ -14,7 +11,8 @@ invariant-lines g l = record {
   cause : HasBytesCause (g.B.FileBytes.view l.fn.bytes) (g.B.FileBytes.view l.bytes) None;
   fits : FitsBytes (g.B.FileBytes.view l.bytes) l.reader;
   input : l.reader.input ≡ moved_to l.reader.input.position l.fn.input;
-  state : (past : List Form) × Placed l.docs (g.B.FileBytes.view l.fn.bytes).tells (window_bytes (g.B.FileBytes.view l.fn.bytes).bytes l.fn.input) past l.state l.reader.input.position;
+  state : SoFar g.T.LineTable.form (g.T.LineTable.allows l.number) g.T.LineTable.ends (g.T.LineTable.holds l.number)
+      (g.B.FileBytes.view l.fn.bytes).tells (window_bytes (g.B.FileBytes.view l.fn.bytes).bytes l.fn.input) l.reader.input.position l.table;
 }
 
 abbrev pub decreases-lines : goal.decreases-lines
