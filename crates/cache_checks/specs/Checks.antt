@@ -1,0 +1,11 @@
+-- What the tests say of a frame that fails, and of what is wanted.
+use Rattle.std.specs.Prelude.{◌≡◌, ◌+◌, ◌*◌, ℕ, true, false, List, length}
+use Rattle.cache_outside.specs.Frames.{FrameView}
+use Rattle.cache_door.specs.declared.answers.Want.{Want}
+
+abbrev pub faulty_view : List ℕ → ℕ → FrameView
+faulty_view bytes faults = record { size = length bytes; tells = true; steady = false; faults = faults; bytes = bytes }
+
+-- what is wanted is of the first file of this manifest, and begins at this place of the file
+abbrev pub IsOfPart : ℕ → ℕ → ℕ → Want → Type 0
+IsOfPart manifest size start want = (want.key.manifest ≡ manifest) × (want.key.file ≡ 0) × (want.key.region * size + want.sub.start ≡ start)

@@ -1,0 +1,445 @@
+//! Reads of files through a cache of one, two or four regions, over frames in memory.
+
+ghost use Rattle.std.specs.Prelude.{◌≡◌, ◌<◌, length};
+ghost use Rattle.directory_input.specs.Reads.{one_read};
+ghost use Rattle.cache_door.specs.Doors.{nothing};
+ghost use Rattle.region_ranges.specs.Keys.{IsConfig};
+
+use crate::samples::{FOUR, ONE, Stand, sample_source};
+use crate::steps::{Part, Step};
+use blob_parts::PartTable;
+use byte_text::{Blobs, Name, Text};
+use cache_door::{CacheDoor, Entered};
+use cache_outside::{MemSource, SourceCall, Untold, manifests_in};
+use cache_reader::{Reader, Report};
+use directory_input::{BytesError, FileBytes};
+use region_ranges::{ByteRange, Config};
+use std::alloc::{AllocError, Global};
+use std::process::Abort;
+use std::test::Fail;
+
+/// Every access counts.
+const EAGER: Config = Config {
+    min_delta: 0,
+    ..FOUR
+};
+
+/// One region of 128 KiB, which is one range.
+const WIDE: Config = Config {
+    region: 131_072,
+    range: 131_072,
+    ..ONE
+};
+
+/// A read of the first file from a place on: the bytes that are there, and what is reported, or None for a fault.
+#[derive(Clone, Copy)]
+struct Case {
+    at: u64,
+    bytes: &'static [u8],
+    answer: Option<Report>,
+}
+
+/// What is left behind the reads: what was read of the source, and the counts of the core.
+#[derive(Clone, Copy)]
+struct Left {
+    reads: &'static [(u32, u64, u64)],
+    evictions: u64,
+    promotions: u64,
+    mapped: u32,
+    free: u32,
+}
+
+fn report(hit: u64, fetched: u64, direct: u64) -> Option<Report> {
+    Some(Report {
+        hit,
+        fetched,
+        direct,
+    })
+}
+
+// The sums of a reader that read nothing directly.
+fn sum(hit: u64, fetched: u64) -> Report {
+    Report {
+        hit,
+        fetched,
+        direct: 0,
+    }
+}
+
+fn front(answer: Option<Report>) -> Case {
+    Case {
+        at: 0,
+        bytes: &[0, 1, 2, 3],
+        answer,
+    }
+}
+
+fn second(answer: Option<Report>) -> Case {
+    Case {
+        at: 4096,
+        bytes: &[0x50, 0x51, 0x52, 0x53],
+        answer,
+    }
+}
+
+/// The last six bytes of the first region and the first ten of the second one.
+fn across(answer: Option<Report>) -> Case {
+    Case {
+        at: 4090,
+        bytes: &[
+            0x4a, 0x4b, 0x4c, 0x4d, 0x4e, 0x4f, 0x50, 0x51, 0x52, 0x53, 0x54, 0x55, 0x56, 0x57,
+            0x58, 0x59,
+        ],
+        answer,
+    }
+}
+
+/// Makes the read, and compares the bytes that it answers. What it reports, or None for a fault.
+fn read_next<'a, D: CacheDoor<Untold>>(
+    rt: &impl Abort,
+    reader: &mut Reader<'a, Untold, D, MemSource<Untold>>,
+    case: &Case,
+) -> Option<Report>
+    requires file { 0 < (⟦<Reader<'a, Untold, D, MemSource<Untold>> as FileBytes>⟧.view reader.old).count }
+    ensures goes { let read = one_read 0 case.now.at (length case.now.bytes.now) in
+        ⟦<Reader<'a, Untold, D, MemSource<Untold>> as FileBytes>⟧.goes_by read reader.old reader.new }
+    ensures count { let view = ⟦<Reader<'a, Untold, D, MemSource<Untold>> as FileBytes>⟧.view in
+        (view reader.new).count ≡ (view reader.old).count }
+{
+    let wanted = case.bytes;
+    assert!(rt; wanted.len() <= 16);
+    let mut room = [0; 16];
+    let out = &mut room[..wanted.len()];
+    let length = reader.len(0);
+    assert!(rt; case.at <= length && wanted.len() as u64 <= length - case.at);
+    match reader.read(0, case.at, out) {
+        Ok(report) => {
+            assert!(rt; *out == *wanted, "at {}", case.at);
+            Some(report)
+        }
+        Err(error) => {
+            assert!(rt; error == BytesError::Fault);
+            None
+        }
+    }
+}
+
+/// Makes the read through a reader of its own, whose sum is that of the one read.
+fn read<D: CacheDoor<Untold>>(
+    rt: &(impl Abort + AllocGlobal),
+    door: &mut D,
+    source: &mut MemSource<Untold>,
+    table: &PartTable<Untold>,
+    config: &Config,
+    case: &Case,
+) -> bool
+    requires free { (D.view door.old).hold ≡ nothing }
+    requires setting { (D.view door.old).config ≡ config.now }
+    requires limits { IsConfig config.now }
+    requires file { 0 < length table.now.files }
+    ensures hold { (D.view door.new).hold ≡ nothing }
+    ensures config { (D.view door.new).config ≡ config.now }
+{
+    let mut reader = Reader::new(rt.alloc(), door, source, table, 0, config, 0);
+    let answer = read_next(rt, &mut reader, case);
+    answer == case.answer && (answer.is_none() || Some(reader.total()) == answer)
+}
+
+/// The place of the first read that answers otherwise, or None.
+fn first_other<D: CacheDoor<Untold>>(
+    rt: &(impl Abort + AllocGlobal),
+    door: &mut D,
+    source: &mut MemSource<Untold>,
+    table: &PartTable<Untold>,
+    config: &Config,
+    cases: &[Case],
+) -> Option<usize>
+    requires free { (D.view door.old).hold ≡ nothing }
+    requires setting { (D.view door.old).config ≡ config.now }
+    requires limits { IsConfig config.now }
+    requires file { 0 < length table.now.files }
+{
+    for (place, case) in cases.iter().enumerate() {
+        if !read(rt, door, source, table, config, case) {
+            return Some(place);
+        }
+    }
+    None
+}
+
+/// Makes the reads as this actor, each through a reader of its own.
+fn read_each(
+    rt: &(impl Abort + AllocGlobal),
+    stand: Stand,
+    actor: u32,
+    cases: &[Case],
+    left: &Left,
+) -> Result<(), Fail> {
+    let Stand {
+        mut source,
+        table,
+        mut core,
+        config,
+    } = stand;
+    assert!(rt; actor < 2);
+    assert!(rt; core.hold_of(actor).is_none());
+    let mut door = core.door(actor);
+    assert_eq!(rt;
+        first_other(rt, &mut door, &mut source, &table, &config, cases),
+        None
+    );
+    assert_eq!(rt; source.reads(), left.reads);
+    let tally = core.tally();
+    assert_eq!(rt;
+        (
+            tally.evictions,
+            tally.promotions,
+            tally.demotions,
+            tally.listed
+        ),
+        (left.evictions, left.promotions, 0, left.mapped)
+    );
+    assert_eq!(rt; (core.free_len(), core.leaving_len()), (left.free, 0));
+    Ok(())
+}
+
+/// Makes the reads as the first actor, all through one reader. Behind each its sums are these.
+fn read_by_one(
+    rt: &(impl Abort + AllocGlobal),
+    stand: Stand,
+    cases: &[(Case, Report)],
+    promotions: u64,
+) -> Result<(), Fail> {
+    let Stand {
+        mut source,
+        table,
+        mut core,
+        config,
+    } = stand;
+    assert!(rt; core.hold_of(0).is_none());
+    let mut door = core.door(0);
+    let mut reader = Reader::new(rt.alloc(), &mut door, &mut source, &table, 0, &config, 0);
+    for (case, total) in cases {
+        assert!(rt;
+            read_next(rt, &mut reader, case) == case.answer,
+            "at {}",
+            case.at
+        );
+        assert!(rt; reader.total() == *total, "at {}", case.at);
+    }
+    assert_eq!(rt; core.tally().promotions, promotions);
+    Ok(())
+}
+
+/// A core over the sample archive's manifest, and reads of its first file.
+fn stand(
+    rt: &(impl Abort + AllocGlobal),
+    config: &Config,
+    manifest: &str,
+    fails: &[(SourceCall, u64)],
+) -> Result<Stand, AllocError>
+    requires { IsConfig config.now }
+{
+    let alloc = rt.alloc();
+    let mut listed = Vec::new(alloc);
+    listed.extend_from_slice(fails)?;
+    let source = sample_source(rt, alloc, listed)?;
+    Stand::new(rt, alloc, source, config, manifest, false)
+}
+
+#[test]
+fn what_reads_take(rt: HostRuntime) -> Result<(), Fail> {
+    let cases = [
+        across(report(16, 8192, 0)),
+        across(report(16, 0, 0)),
+        Case {
+            at: 9999,
+            bytes: &[0xd2],
+            answer: report(1, 1808, 0),
+        },
+        Case {
+            at: 10_000,
+            bytes: &[],
+            answer: report(0, 0, 0),
+        },
+    ];
+    // the manifest, and a region each
+    let left = Left {
+        reads: &[(8, 0, 93), (2, 0, 4096), (2, 4096, 4096), (2, 8192, 1808)],
+        evictions: 0,
+        promotions: 0,
+        mapped: 3,
+        free: 1,
+    };
+    read_each(&rt, stand(&rt, &FOUR, "mount-y", &[])?, 0, &cases, &left)
+}
+
+#[test]
+fn a_read_across_two_parts(rt: HostRuntime) -> Result<(), Fail> {
+    let case = Case {
+        at: 98,
+        bytes: b" red",
+        answer: report(4, 172, 0),
+    };
+    let left = Left {
+        reads: &[(7, 0, 148), (0, 0, 100), (1, 0, 72)],
+        evictions: 0,
+        promotions: 0,
+        mapped: 1,
+        free: 3,
+    };
+    read_each(&rt, stand(&rt, &FOUR, "mount-x", &[])?, 0, &[case], &left)
+}
+
+#[test]
+fn a_cache_of_one_region(rt: HostRuntime) -> Result<(), Fail> {
+    let fetched = report(4, 4096, 0);
+    let cases = [front(fetched), second(fetched), front(fetched)];
+    let left = Left {
+        reads: &[(8, 0, 93), (2, 0, 4096), (2, 4096, 4096), (2, 0, 4096)],
+        evictions: 2,
+        promotions: 0,
+        mapped: 1,
+        free: 0,
+    };
+    read_each(&rt, stand(&rt, &ONE, "mount-y", &[])?, 0, &cases, &left)
+}
+
+/// The first actor holds the only region. The second one is turned away: it reads directly, and wants no memory.
+#[test]
+fn a_reader_without_room(rt: HostRuntime) -> Result<(), Fail> {
+    let mut stand = stand(&rt, &ONE, "mount-y", &[])?;
+    let enters = Step::Enter {
+        actor: 0,
+        mount: 0,
+        part: Part {
+            start: 0,
+            end: 4,
+            length: 10_000,
+        },
+        answer: Entered::Held {
+            region: 0,
+            gap: Some(ByteRange {
+                start: 0,
+                end: 4096,
+            }),
+        },
+    };
+    assert_eq!(rt; stand.first_other(rt.alloc(), &[enters])?, None);
+    let left = Left {
+        reads: &[(8, 0, 93), (2, 4096, 4)],
+        evictions: 0,
+        promotions: 0,
+        mapped: 1,
+        free: 0,
+    };
+    read_each(&rt, stand, 1, &[second(report(0, 0, 4))], &left)
+}
+
+/// A read of two parts whose second one fails counts the first; the next reads of the same reader go on from there.
+#[test]
+fn a_part_that_fails(rt: HostRuntime) -> Result<(), Fail> {
+    // read 2 fails: the first region; read 3 is the first region, and read 4, the second one, fails
+    let cases = [
+        (front(None), sum(0, 0)),
+        (across(None), sum(6, 4096)),
+        (across(report(16, 4096, 0)), sum(22, 8192)),
+    ];
+    let fails = [(SourceCall::Read, 2), (SourceCall::Read, 4)];
+    read_by_one(&rt, stand(&rt, &FOUR, "mount-y", &fails)?, &cases, 0)?;
+    let cases = [
+        (front(None), sum(0, 0)),
+        (front(report(4, 4096, 0)), sum(4, 4096)),
+        (
+            Case {
+                at: 4092,
+                bytes: &[0x4c, 0x4d, 0x4e, 0x4f],
+                answer: report(4, 0, 0),
+            },
+            sum(8, 4096),
+        ),
+        (
+            Case {
+                at: 4096,
+                bytes: &[0x50],
+                answer: report(1, 4096, 0),
+            },
+            sum(9, 8192),
+        ),
+    ];
+    read_by_one(&rt, stand(&rt, &FOUR, "mount-y", &fails[..1])?, &cases, 0)
+}
+
+/// The part that was copied last is looked at once more with no entry, which would count as an access. A new reader
+/// enters.
+#[test]
+fn a_glance_comes_first(rt: HostRuntime) -> Result<(), Fail> {
+    let cases = [
+        (front(report(4, 4096, 0)), sum(4, 4096)),
+        (front(report(4, 0, 0)), sum(8, 4096)),
+        (
+            Case {
+                at: 4092,
+                bytes: &[0x4c, 0x4d],
+                answer: report(2, 0, 0),
+            },
+            sum(10, 4096),
+        ),
+    ];
+    read_by_one(&rt, stand(&rt, &EAGER, "mount-y", &[])?, &cases, 0)?;
+    let cases = [front(report(4, 4096, 0)), front(report(4, 0, 0))];
+    let left = Left {
+        reads: &[(8, 0, 93), (2, 0, 4096)],
+        evictions: 0,
+        promotions: 1,
+        mapped: 1,
+        free: 3,
+    };
+    read_each(&rt, stand(&rt, &EAGER, "mount-y", &[])?, 0, &cases, &left)
+}
+
+const MANIFEST_BIG: &[u8] =
+    b"{\"version\":1,\"files\":[{\"name\":\"__big\",\"physical_name\":\"big.bin\",\"length\":140000}],\"segments\":[]}";
+
+/// A source of one file of 140,000 bytes, all 7. Any read is answered whole.
+fn big_source(rt: &impl Abort, alloc: Global) -> Result<MemSource<Untold>, AllocError> {
+    let mut blobs = Blobs::new(alloc);
+    let bytes = Text::from_vec(vec![in alloc; 7; 140_000]?);
+    for (name, bytes) in [
+        (b"__big".as_slice(), bytes),
+        (b"mount-big".as_slice(), Text::of(alloc, MANIFEST_BIG)?),
+    ] {
+        if let Some(name) = Name::read(alloc, name)? {
+            blobs.push((name, bytes))?;
+        }
+    }
+    assert!(rt; manifests_in(&blobs) <= 65_536);
+    Ok(MemSource::<Untold>::new(alloc, blobs, 1_000_000, Vec::new(alloc)))
+}
+
+/// A gap is fetched in pieces of 65,536 bytes.
+#[test]
+fn pieces_of_a_gap(rt: HostRuntime) -> Result<(), Fail> {
+    let alloc = rt.alloc();
+    let stand = Stand::new(
+        &rt,
+        alloc,
+        big_source(&rt, alloc)?,
+        &WIDE,
+        "mount-big",
+        false,
+    )?;
+    let case = Case {
+        at: 131_000,
+        bytes: &[7, 7],
+        answer: report(2, 131_072, 0),
+    };
+    let left = Left {
+        reads: &[(1, 0, 96), (0, 0, 65_536), (0, 65_536, 65_536)],
+        evictions: 0,
+        promotions: 0,
+        mapped: 1,
+        free: 0,
+    };
+    read_each(&rt, stand, 0, &[case], &left)
+}
