@@ -26,13 +26,13 @@ one_total f (y ∷ []) zero x d l h e = let k = ap f e in omega (arith, k)
 one_total f (y ∷ []) (suc a) x d l h e = absurd (omega (arith, h))
 one_total f (y ∷ z ∷ zs) a x d l h e = absurd (omega (arith, l))
 
-take_get : {X : Type 0} (k i : ℕ) (xs : List X) (x : X) → slice_get (take k xs) i ≡ Some x → slice_get xs i ≡ Some x
+pub take_get : {X : Type 0} (k i : ℕ) (xs : List X) (x : X) → slice_get (take k xs) i ≡ Some x → slice_get xs i ≡ Some x
 take_get zero i xs x e = absurd (some_none e)
 take_get (suc k) i [] x e = absurd (some_none e)
 take_get (suc k) zero (y ∷ ys) x e = e
 take_get (suc k) (suc i) (y ∷ ys) x e = take_get k i ys x e
 
-drop_get : {X : Type 0} (k i : ℕ) (xs : List X) (x : X) → slice_get (drop k xs) i ≡ Some x → (j : ℕ) × (slice_get xs j ≡ Some x)
+pub drop_get : {X : Type 0} (k i : ℕ) (xs : List X) (x : X) → slice_get (drop k xs) i ≡ Some x → (j : ℕ) × (slice_get xs j ≡ Some x)
 drop_get zero i xs x e = (i, e)
 drop_get (suc k) i [] x e = absurd (some_none e)
 drop_get (suc k) i (y ∷ ys) x e = let r = drop_get k i ys x e in (suc r.0, r.1)
@@ -41,7 +41,7 @@ drop_get (suc k) i (y ∷ ys) x e = let r = drop_get k i ys x e in (suc r.0, r.1
 pub cut_get : {X : Type 0} (start end i : ℕ) (xs : List X) (x : X) → slice_get (slice_range xs start end) i ≡ Some x → (j : ℕ) × (slice_get xs j ≡ Some x)
 cut_get start end i xs x e = drop_get start i xs x (take_get _ i (drop start xs) x e)
 
-all_there : (ls : List ByteState) → list_any is_absent ls ≡ false → ((i g : ℕ) → slice_get ls i ≡ Some (pending g) → ⊥) → list_all is_present ls ≡ true
+pub all_there : (ls : List ByteState) → list_any is_absent ls ≡ false → ((i g : ℕ) → slice_get ls i ≡ Some (pending g) → ⊥) → list_all is_present ls ≡ true
 all_there [] e n = refl
 all_there (absent ∷ ls) e n = absurd (false≢true (sym e))
 all_there (pending g ∷ ls) e n = absurd (n 0 g refl)
@@ -49,7 +49,7 @@ all_there (present ∷ ls) e n = all_there ls e (λ i g. n (suc i) g)
 
 -- ---- the only actor
 
-weigh_closed : (r : ℕ) (f : ℕ → ℕ → ℕ → ℕ) (h : Hold) → h.gap.end ≤ h.gap.upto → weigh_hold r (hold_gap f) (Some h) ≡ 0
+pub weigh_closed : (r : ℕ) (f : ℕ → ℕ → ℕ → ℕ) (h : Hold) → h.gap.end ≤ h.gap.upto → weigh_hold r (hold_gap f) (Some h) ≡ 0
 weigh_closed r f h closed =
     let t : nat_lt h.gap.upto h.gap.end ≡ false = grind (arith, nat_tests) in
     rw t (elim (cases_Bool (h.region == r)) [ inl u ↦ rw u refl | inr u ↦ rw u refl ])
@@ -64,7 +64,7 @@ no_gaps s a r h good one held closed inside =
     ∙ one_total (weigh_hold r (hold_gap f)) s.holds a (Some h) None one (held_inside s a h held) held
     ∙ weigh_closed r f h closed)
 
-none_pending : (t : Tracker) → GapsFit t → t.gaps ≡ [] → (i g : ℕ) → slice_get t.byte_states i ≡ Some (pending g) → ⊥
+pub none_pending : (t : Tracker) → GapsFit t → t.gaps ≡ [] → (i g : ℕ) → slice_get t.byte_states i ≡ Some (pending g) → ⊥
 none_pending t fit none i g e =
     let o = fit.owned i g e in
     let P : List OpenGap → Type 0 = λ l. slice_get l o.0 ≡ Some o.1 in

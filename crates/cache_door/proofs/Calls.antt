@@ -19,7 +19,7 @@ use Rattle.cache_door.specs.Machine.{State, Cell, cell_at, hold_at, hold_on, gap
 use Rattle.cache_door.specs.Good.{Good, GoodCell, HoldFits}
 use Rattle.cache_door.proofs.Keeps.{Changes}
 use Rattle.cache_door.proofs.Found.{found_ticket, found_gap}
-use Rattle.cache_door.proofs.Places.{same_is, other_is}
+use Rattle.freq_lists.proofs.Counts.{same_is, other_is}
 
 -- ---- a mapped region is not free
 
@@ -51,7 +51,7 @@ mapped_busy p r tag kept e =
 
 -- ---- a claim
 
-tickets_open : (run : Option ByteRange) (t : Tracker) → (open_gap_at run t).tickets ≡ t.tickets
+pub tickets_open : (run : Option ByteRange) (t : Tracker) → (open_gap_at run t).tickets ≡ t.tickets
 tickets_open None t = refl
 tickets_open (Some x) t = refl
 

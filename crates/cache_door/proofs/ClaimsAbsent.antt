@@ -21,10 +21,10 @@ use Rattle.cache_door.proofs.Fronts.{front_there}
 use Rattle.cache_door.specs.Laws.{ClaimsAbsent}
 use Rattle.cache_door.proofs.Places.{is_same}
 
-gone_held : {q : ℕ} {o : Option ByteRange} → Gone ≡ Held q o → ⊥
+pub gone_held : {q : ℕ} {o : Option ByteRange} → Gone ≡ Held q o → ⊥
 gone_held e = cc
 
-room_held : {q : ℕ} {o : Option ByteRange} → NoRoom ≡ Held q o → ⊥
+pub room_held : {q : ℕ} {o : Option ByteRange} → NoRoom ≡ Held q o → ⊥
 room_held e = cc
 
 held_is : (r q : ℕ) (o p : Option ByteRange) → Held r o ≡ Held q p → (q ≡ r) × (o ≡ p)

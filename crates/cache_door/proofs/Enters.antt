@@ -17,10 +17,10 @@ use Rattle.cache_door.specs.Machine.{State, Cell, cell_at, hold_at, with_cell, s
 use Rattle.cache_door.specs.Doors.{IsHeld}
 use Rattle.cache_door.specs.Counters.{CountersRisen, counters_same}
 use Rattle.cache_door.specs.Cores.{CoreView, view_at, all_tell, cell_of, state_of, no_frame, Later}
-use Rattle.cache_door.proofs.Places.{same_is}
 use Rattle.cache_door.proofs.Policies.{settled_all}
 use Rattle.cache_door.proofs.Frames.{cell_is, state_set, length_map, set_same, tell_same, steady_same, faults_later, faults_stand}
 use Rattle.cache_door.proofs.Held.{frame_same}
+use Rattle.freq_lists.proofs.Counts.{same_is}
 
 -- a cell with another number of claims for which there is room
 module _ (v : CoreView) (r : ℕ) (y : CellView) (within : r < length v.cells) (frame_is : y.metadata.frame ≡ (view_at v.cells r).metadata.frame) where
@@ -65,7 +65,7 @@ assigned_state v r tag len p within =
     ap (λ (s : State). let t : State = record s { policy = p } in t) (changed_state v r y within refl ∙ ap (λ (q : Cell). with_cell r q (state_of v)) c)
 
 -- a key that is not mapped is not after room was made
-find_unmapped : (tag i r : ℕ) (ts : List (Option ℕ)) → position_from (is_tag tag) i ts ≡ None → position_from (is_tag tag) i (set ts r None) ≡ None
+pub find_unmapped : (tag i r : ℕ) (ts : List (Option ℕ)) → position_from (is_tag tag) i ts ≡ None → position_from (is_tag tag) i (set ts r None) ≡ None
 find_unmapped tag i r [] e = refl
 find_unmapped tag i zero (t ∷ ts) e = elim (cases_Bool (is_tag tag t)) [
   | inl y ↦ absurd (some_none (rw y at e))
@@ -82,7 +82,7 @@ find_unmapped tag i (suc r) (t ∷ ts) e = elim (cases_Bool (is_tag tag t)) [
     some_none : {n : ℕ} → Some n ≡ None → ⊥
     some_none e = cc
 
-evicted_find : (tag : ℕ) (o : Option ℕ) (p : PolicyView) → find tag p ≡ None → find tag (evicted o p) ≡ None
+pub evicted_find : (tag : ℕ) (o : Option ℕ) (p : PolicyView) → find tag p ≡ None → find tag (evicted o p) ≡ None
 evicted_find tag None p e = e
 evicted_find tag (Some r) p e = find_unmapped tag 0 r p.tags e
 

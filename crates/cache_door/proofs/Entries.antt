@@ -20,7 +20,6 @@ use Rattle.cache_door.specs.Machine.{State, Cell, cell_at, hold_at, with_hold, w
 use Rattle.cache_door.specs.Good.{Good, GoodCell}
 use Rattle.cache_door.specs.Doors.{HoldView, hold_view, nothing, IsEntry, IsWant}
 use Rattle.cache_door.specs.Cores.{CoreView, view_at, all_tell, cell_of, state_of, no_frame, IsKept, Later}
-use Rattle.cache_door.proofs.Places.{same_is, other_is}
 use Rattle.cache_door.proofs.Policies.{touch_changes, settled_changes, unmap_changes}
 use Rattle.cache_door.proofs.Mapping.{Maps, maps_keeps, free_unheld, no_tickets, no_gaps, head_in}
 use Rattle.cache_door.proofs.Fronts.{unheld_first, mapped_there, free_there, front_there}
@@ -28,6 +27,7 @@ use Rattle.cache_door.proofs.Calls.{hold_changes, mapped_busy}
 use Rattle.cache_door.proofs.Frames.{cell_is, state_set, length_map, set_same}
 use Rattle.cache_door.proofs.Kept.{policy_kept, cell_kept, new_good, set_sized}
 use Rattle.cache_door.proofs.Held.{frame_same, read_is, left_later, left_state}
+use Rattle.freq_lists.proofs.Counts.{same_is, other_is}
 
 pub work_kept : {tells : Bool} {files : ℕ → ℕ → List ℕ} (v : CoreView) (w : Work) → IsKept tells files v → IsKept tells files (record v { work = w })
 work_kept v w kept = record { good = kept.good; sized = kept.sized }

@@ -12,7 +12,8 @@ use Rattle.cache_door.specs.declared.hold.Hold.{Hold}
 use Rattle.cache_door.specs.Machine.{State, cell_at, hold_at}
 use Rattle.cache_door.specs.Good.{Good, weigh_hold, hold_ticket, hold_gap}
 use Rattle.cache_door.proofs.Weighs.{total-at, weigh_here}
-use Rattle.cache_door.proofs.Places.{same_is, is_same, past}
+use Rattle.cache_door.proofs.Places.{is_same, past}
+use Rattle.freq_lists.proofs.Counts.{same_is}
 
 -- 1 at these three numbers, else 0
 abbrev pub mark : ℕ → ℕ → ℕ → ℕ → ℕ → ℕ → ℕ

@@ -12,7 +12,8 @@ use Rattle.cache_door.specs.Good.{Good}
 use Rattle.cache_door.proofs.Places.{head_passes}
 use Rattle.cache_door.proofs.Mapping.{free_unheld, head_in}
 use Rattle.cache_door.proofs.Calls.{mapped_inside}
-use Rattle.cache_door.proofs.Walks.{choose_free, choose_leaving, choose_candidate, candidate_times}
+use Rattle.cache_door.proofs.Walks.{choose_free, choose_leaving, choose_candidate}
+use Rattle.cache_policy.proofs.Places.{candidate_times}
 
 pub unheld_first : (holds : List (Option Hold)) (rs : List ℕ) (r : ℕ) → head (unheld_by holds rs) ≡ Some r → is_held_by holds r ≡ false
 unheld_first holds rs r e = let h = (head_passes (λ m. not (is_held_by holds m)) r rs e).0 in elim (cases_Bool (is_held_by holds r)) [
@@ -20,14 +21,14 @@ unheld_first holds rs r e = let h = (head_passes (λ m. not (is_held_by holds m)
   | inr f ↦ f
 ]
 
-in_times : (r : ℕ) (xs : List ℕ) → is_in r xs ≡ true → 0 < times_in r xs
+pub in_times : (r : ℕ) (xs : List ℕ) → is_in r xs ≡ true → 0 < times_in r xs
 in_times r [] e = absurd (false≢true e)
 in_times r (x ∷ xs) e = elim (cases_Bool (x == r)) [
   | inl t ↦ rw t (omega arith)
   | inr f ↦ let h = in_times r xs (rw f at e) in omega (arith, h)
 ]
 
-placed_inside : (p : PolicyView) (r : ℕ) → policy.IsGood p → 0 < policy.places p r → r < length p.tags
+pub placed_inside : (p : PolicyView) (r : ℕ) → policy.IsGood p → 0 < policy.places p r → r < length p.tags
 placed_inside p r kept h = elim (cases_lt r (length p.tags)) [
   | inl l ↦ l
   | inr g ↦ absurd (let z = kept.none_else r g in omega (arith, z, h))

@@ -15,8 +15,7 @@ use Rattle.cache_door.specs.declared.hold.Hold.{Hold}
 use Rattle.cache_door.specs.Machine.{State, Cell, cell_at, hold_at, with_cell, no_cell, is_on, is_held}
 use Rattle.cache_door.specs.Good.{Good, GoodCell, HoldFits, TicketsOwned, GapsOwned, weigh_hold, hold_ticket, hold_gap}
 use Rattle.cache_door.proofs.Weighs.{total_off}
-use Rattle.cache_door.proofs.Places.{same_is, other_is}
-use Rattle.cache_door.proofs.Policies.{length-push}
+use Rattle.freq_lists.proofs.Counts.{length_push as length-push, same_is, other_is}
 
 -- ---- nobody holds a free region
 

@@ -8,12 +8,7 @@ use Rattle.std.proofs.lemmas.List.Folds.{list_any_at}
 use Rattle.freq_lists.specs.Lists.{is_in, head}
 use Rattle.cache_door.specs.declared.hold.Hold.{Hold}
 use Rattle.cache_door.specs.Machine.{State, hold_at, is_on, is_held, unheld}
-
-pub same_is : (a b : ℕ) → a ≡ b → (a == b) ≡ true
-same_is a b e = grind (arith, nat_tests)
-
-pub other_is : (a b : ℕ) → ¬ (a ≡ b) → (a == b) ≡ false
-other_is a b n = grind (arith, nat_tests)
+use Rattle.freq_lists.proofs.Counts.{same_is, other_is}
 
 pub is_same : (a b : ℕ) → (a == b) ≡ true → a ≡ b
 is_same a b e = grind (arith, nat_tests)

@@ -12,7 +12,9 @@ use Rattle.cache_policy.specs.Kept as policy
 use Rattle.cache_door.specs.declared.hold.Hold.{Hold}
 use Rattle.cache_door.specs.Machine.{State, hold_at, is_held, unheld, settled}
 use Rattle.cache_door.specs.Good.{Good}
-use Rattle.cache_door.proofs.Places.{other_is, kept_in, not_unheld, off_region}
+use Rattle.cache_door.proofs.Places.{kept_in, not_unheld, off_region}
+use Rattle.freq_lists.proofs.Counts.{length_unlink as length-unlink, length_push as length-push, other_is}
+use Rattle.cache_policy.proofs.Places.{length_lower as length-lower}
 
 pub record PolicyChanges (s : State) (p : PolicyView) : Type 0 where
   pub good : policy.IsGood p
@@ -38,22 +40,9 @@ policy_keeps s p good now = record {
 
 -- ---- an access, a decay and a clear
 
-pub length-unlink : (n : ℕ) (ls : List (List ℕ)) → length (unlink n ls) ≡ length ls
-length-unlink n [] = refl
-length-unlink n (l ∷ ls) = let k = length-unlink n ls in omega (arith, k)
-
-pub length-push : (k n : ℕ) (ls : List (List ℕ)) → length (push_back k n ls) ≡ length ls
-length-push k n [] = refl
-length-push zero n (l ∷ ls) = refl
-length-push (suc k) n (l ∷ ls) = let h = length-push k n ls in omega (arith, h)
-
 length-lower_rest : (goes : ℕ → Bool) (ls : List (List ℕ)) → length (lower_rest goes ls) ≡ length ls
 length-lower_rest goes [] = refl
 length-lower_rest goes (l ∷ ls) = let h = length-lower_rest goes ls in omega (arith, h)
-
-length-lower : (goes : ℕ → Bool) (ls : List (List ℕ)) → length (lower goes ls) ≡ length ls
-length-lower goes [] = refl
-length-lower goes (l ∷ ls) = let h = length-lower_rest goes ls in omega (arith, h)
 
 -- what an access leaves
 record Touched (p q : PolicyView) : Type 0 where

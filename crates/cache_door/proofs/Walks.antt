@@ -10,8 +10,11 @@ use Rattle.cache_policy.specs.Kept.{IsGood, one_if_some}
 use Rattle.cache_door.specs.declared.hold.Hold.{Hold}
 use Rattle.cache_door.specs.Machine.{is_held_by, unheld_by, settled_by, evicted, evicted_by, room_by}
 use Rattle.cache_door.specs.Choices.{left_from}
-use Rattle.cache_door.proofs.Places.{same_is, other_is, is_same}
+use Rattle.cache_door.proofs.Places.{is_same}
 use Rattle.cache_door.proofs.Policies.{settled_all}
+use Rattle.freq_lists.proofs.Counts.{times_append as append_times, same_is, other_is}
+use Rattle.cache_policy.proofs.Places.{candidate_times}
+use Rattle.cache_policy.proofs.Tags.{one_is as is_one}
 
 -- ---- the unheld regions from place i on
 
@@ -65,14 +68,6 @@ once_leaving p r kept = elim (cases_lt r (length p.tags)) [
 
 -- ---- from one candidate to the next
 
-append_times : (n : ℕ) (xs ys : List ℕ) → times_in n (xs ++ ys) ≡ times_in n xs + times_in n ys
-append_times n [] ys = omega arith
-append_times n (x ∷ xs) ys = omega (arith, append_times n xs ys)
-
-pub candidate_times : (r : ℕ) (ls : List (List ℕ)) → times_in r (candidates_in ls) ≡ times r ls
-candidate_times r [] = refl
-candidate_times r (l ∷ ls) = append_times r l (candidates_in ls) ∙ ap (λ n. times_in r l + n) (candidate_times r ls)
-
 at_most_one : (o : Option ℕ) → one_if_some o ≤ 1
 at_most_one None = omega arith
 at_most_one (Some t) = omega arith
@@ -80,10 +75,6 @@ at_most_one (Some t) = omega arith
 -- each candidate stands there once
 pub once_candidate : (p : PolicyView) → IsGood p → (r : ℕ) → times_in r (candidates p) ≤ 1
 once_candidate p kept r = omega (arith, candidate_times r p.lists, kept.mapped r, at_most_one (tag_at p r))
-
-is_one : (o : Option ℕ) → IsSome o → one_if_some o ≡ 1
-is_one None h = absurd (cc)
-is_one (Some t) h = refl
 
 -- a mapped region is one
 pub mapped_candidate : (p : PolicyView) → IsGood p → (r : ℕ) → IsSome (tag_at p r) → 0 < times_in r (candidates p)

@@ -8,6 +8,7 @@ use Rattle.sparse_tracker.specs.Weights.{total}
 use Rattle.cache_door.specs.declared.hold.Hold.{Hold}
 use Rattle.cache_door.specs.Machine.{is_on}
 use Rattle.cache_door.specs.Good.{weigh_hold}
+use Rattle.sparse_tracker.proofs.Weighs.{total-push}
 
 -- an entry of a list weighs at most what the list does
 pub total-at : {X : Type 0} (f : X → ℕ) (xs : List X) (i : ℕ) (d : X) → i < length xs → f (get_or xs i d) ≤ total f xs
@@ -20,10 +21,6 @@ pub total-set : {X : Type 0} (f : X → ℕ) (xs : List X) (i : ℕ) (x d : X) �
 total-set f [] i x d h = absurd (omega arith)
 total-set f (y ∷ ys) zero x d h = omega arith
 total-set f (y ∷ ys) (suc i) x d h = let k = total-set f ys i x d (omega arith) in omega (arith, k)
-
-pub total-push : {X : Type 0} (f : X → ℕ) (xs : List X) (x : X) → total f (xs ++ x ∷ []) ≡ total f xs + f x
-total-push f [] x = omega arith
-total-push f (y ∷ ys) x = omega (arith, total-push f ys x)
 
 -- what a hold weighs by itself
 abbrev pub weigh : (Hold → ℕ) → Option Hold → ℕ

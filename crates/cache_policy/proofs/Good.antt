@@ -5,14 +5,13 @@ use Rattle.std.specs.List.{position_from, range_with_len}
 use Rattle.std.proofs.lemmas.List.{length-set, length-replicate}
 use Rattle.std.proofs.lemmas.Bool.{cases_eq, cases_lt}
 use Rattle.freq_lists.specs.Lists.{without, unlink, push_back, times, times_in, head}
-use Rattle.freq_lists.proofs.Counts.{same_is, other_is, times_append, times_push, times_empty, length_push, length_unlink}
+use Rattle.freq_lists.proofs.Counts.{same_is, other_is, times_append, times_push, times_empty, length_push, length_unlink, times_unlink, unlink_other_times}
 use Rattle.freq_lists.proofs.Room.{room}
 use Rattle.cache_policy.specs.Policy.{PolicyView, tag_at, is_tag, new_policy}
 use Rattle.cache_policy.specs.Ageing.{lower}
 use Rattle.cache_policy.specs.Kept.{IsGood, places, one_if_some}
-use Rattle.cache_policy.proofs.Lowers.{times_unlink}
 use Rattle.cache_policy.proofs.Tags.{at, at_same, at_other, at_within, one_is, not_found}
-use Rattle.cache_policy.proofs.Places.{moved, moved_in, pushed_again, unlink_other_times, head_free, times_lower, length_lower, all_free, none_past}
+use Rattle.cache_policy.proofs.Places.{moved, moved_in, pushed_again, head_free, times_lower, length_lower, all_free, none_past}
 
 module _ (p : PolicyView) (good : IsGood p) where
   keep : (q : PolicyView) → ((r : ℕ) → places q r ≡ places p r) → length q.tags ≡ length p.tags → length q.last_accesses ≡ length p.last_accesses → length q.lists ≡ length p.lists

@@ -3,12 +3,12 @@ use Rattle.std.proofs.Common.{arith, ◌≡◌, ◌<◌, ℕ, zero, suc, List, [
 use Rattle.std.specs.Prelude.{◌==◌, not, slice_set}
 use Rattle.std.proofs.lemmas.List.Elements.{filter-append}
 use Rattle.freq_lists.specs.Lists.{times, times_in, push_back, unlink, without}
-use Rattle.freq_lists.proofs.Counts.{same_is}
+use Rattle.freq_lists.proofs.Counts.{same_is, times_append}
 use Rattle.cache_policy.specs.Policy.{tag_at}
 use Rattle.cache_policy.specs.Ageing.{candidates_in}
 use Rattle.cache_policy.specs.Kept.{one_if_some}
 use Rattle.cache_policy.specs.Laws.{FreeRegionLeaves, CandidatesLeft}
-use Rattle.cache_policy.proofs.Lowers.{without_one, unlink_none, times_append}
+use Rattle.cache_policy.proofs.Lowers.{without_one, unlink_none}
 use Rattle.cache_policy.proofs.Tags.{at}
 use Rattle.cache_policy.proofs.Good.{front_region, front_not_listed}
 

@@ -6,23 +6,8 @@ use Rattle.std.proofs.lemmas.Bool.Decides.{nat_tests}
 use Rattle.std.proofs.lemmas.List.Elements.{filter-append}
 use Rattle.freq_lists.specs.Lists.{without, unlink, push_back, times, times_in, next, behind, is_in, head, list_at}
 use Rattle.cache_policy.specs.Steps.{lowering}
-
-pub same_is : (a b : ℕ) → a ≡ b → (a == b) ≡ true
-same_is a b e = grind (arith, nat_tests)
-
-pub other_is : (a b : ℕ) → ¬ (a ≡ b) → (a == b) ≡ false
-other_is a b e = grind (arith, nat_tests)
-
-pub times_append : (n : ℕ) (xs ys : List ℕ) → times_in n (xs ++ ys) ≡ times_in n xs + times_in n ys
-times_append n [] ys = omega arith
-times_append n (x ∷ xs) ys = omega (arith, times_append n xs ys)
-
-pub without_none : (n : ℕ) (l : List ℕ) → times_in n l ≡ 0 → without n l ≡ l
-without_none n [] h = refl
-without_none n (x ∷ xs) h = elim (cases_eq x n) [
-  | inl e ↦ absurd (let t = rw (same_is x n e) at h in omega (arith, t))
-  | inr e ↦ let t = rw (other_is x n e) at h in rw (other_is x n e, without_none n xs (omega (arith, t))) refl
-]
+use Rattle.freq_lists.proofs.Counts.{same_is, other_is, times_append, times_without, times_unlink, length_unlink as length-unlink}
+use Rattle.freq_lists.proofs.Beside.{without_none}
 
 pub without_one : (n : ℕ) (xs ys : List ℕ) → times_in n (xs ++ n ∷ ys) ≤ 1 → without n (xs ++ n ∷ ys) ≡ xs ++ ys
 without_one n xs ys h =
@@ -136,26 +121,11 @@ front_is goes zero (m ∷ []) = refl
 front_is goes zero (m ∷ l ∷ ls) = rw (append-nil m) refl
 front_is goes (suc k) (m ∷ ls) = ap (λ (xs : List (List ℕ)). m ∷ xs) (front_is goes k ls)
 
-pub times_without : (n : ℕ) (l : List ℕ) → times_in n (without n l) ≡ 0
-times_without n [] = refl
-times_without n (x ∷ xs) = elim (cases_Bool (x == n)) [
-  | inl t ↦ rw t (times_without n xs)
-  | inr t ↦ rw (t, t, times_without n xs) refl
-]
-
-pub times_unlink : (n : ℕ) (ls : List (List ℕ)) → times n (unlink n ls) ≡ 0
-times_unlink n [] = refl
-times_unlink n (l ∷ ls) = rw (times_without n l, times_unlink n ls) refl
-
 pub length-lowering : (goes : ℕ → Bool) (k i : ℕ) (ls : List (List ℕ)) → length (lowering goes k i ls) ≡ length ls
 length-lowering goes k i [] = refl
 length-lowering goes zero i (m ∷ []) = refl
 length-lowering goes zero i (m ∷ l ∷ ls) = refl
 length-lowering goes (suc k) i (m ∷ ls) = ap suc (length-lowering goes k i ls)
-
-pub length-unlink : (n : ℕ) (ls : List (List ℕ)) → length (unlink n ls) ≡ length ls
-length-unlink n [] = refl
-length-unlink n (l ∷ ls) = ap suc (length-unlink n ls)
 
 pub some_at : (l : List ℕ) (i n : ℕ) → slice_get l i ≡ Some n → i < length l
 some_at [] i n e = cc

@@ -4,20 +4,8 @@ use Rattle.std.specs.Prelude.{cond, not, ◌==◌, filter}
 use Rattle.std.specs.List.{range_with_len}
 use Rattle.std.proofs.lemmas.Bool.{cases_eq, cases_Bool}
 use Rattle.freq_lists.specs.Lists.{without, unlink, push_back, times, times_in, head}
-use Rattle.freq_lists.proofs.Counts.{same_is, other_is, times_append, times_push, length_unlink}
-use Rattle.cache_policy.proofs.Lowers.{times_without, times_unlink}
+use Rattle.freq_lists.proofs.Counts.{same_is, other_is, times_append, times_push, length_unlink, times_without, times_unlink, without_other, unlink_other_times}
 use Rattle.cache_policy.specs.Ageing.{lower, lower_rest, lowered_of, candidates_in}
-
-pub without_other : (m n : ℕ) (l : List ℕ) → ¬ (n ≡ m) → times_in m (without n l) ≡ times_in m l
-without_other m n [] d = refl
-without_other m n (x ∷ l) d = elim (cases_eq x n) [
-  | inl e ↦ rw (same_is x n e, other_is x m (λ f. d (sym e ∙ f))) (omega (arith, without_other m n l d))
-  | inr e ↦ rw (other_is x n e) (omega (arith, without_other m n l d))
-]
-
-pub unlink_other_times : (m n : ℕ) (ls : List (List ℕ)) → ¬ (n ≡ m) → times m (unlink n ls) ≡ times m ls
-unlink_other_times m n [] d = refl
-unlink_other_times m n (l ∷ ls) d = omega (arith, without_other m n l d, unlink_other_times m n ls d)
 
 -- a region that stood once is counted once more where it is put again
 pub moved : (r j : ℕ) (ls : List (List ℕ)) → times r ls ≡ 1 → cond (r == j) 1 0 + times j (unlink r ls) ≡ times j ls

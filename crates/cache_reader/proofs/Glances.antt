@@ -30,9 +30,11 @@ use Rattle.cache_reader.specs.declared.part.Last.{Last}
 use Rattle.cache_reader.specs.Parts.{ReadSetting, bytes_of, places_of}
 use Rattle.cache_reader.specs.Alone.{Fits, Outcome, part_outcome, unchanged, entry_of, fetched_by, direct_by}
 use Rattle.cache_reader.proofs.Rooms.{found_inside}
-
-some_none : {X : Type 0} {x : X} → None ≡ Some x → ⊥
-some_none e = cc
+use Rattle.cache_policy.proofs.Tags.{not_below, is_tag_at}
+use Rattle.cache_door.proofs.Mapping.{no_weight}
+use Rattle.cache_door.proofs.Frames.{set_twice}
+use Rattle.sparse_tracker.proofs.Spots.{flip, flop}
+use Rattle.cache_door.proofs.OneOwner.{some_none}
 
 -- ---- flags of states
 
@@ -73,14 +75,6 @@ flag_clear ls start end n i e low high most =
     ∙ flag_present (slice_range ls start end) (i - start) e
 
 -- ---- the first run lies behind the sub-range
-
-flip : (b : Bool) → not b ≡ true → b ≡ false
-flip true h = absurd (cc)
-flip false h = refl
-
-flop : (b : Bool) → not b ≡ false → b ≡ true
-flop true h = refl
-flop false h = absurd (cc)
 
 module _ (free : List Bool) (start : ℕ) (sub : ByteRange) (low : start ≤ sub.start) (some : sub.start < sub.end) (clear : (i : ℕ) → sub.start ≤ i → i < sub.end → get_or free i false ≡ false) where
   abbrev count : ℕ
@@ -164,11 +158,6 @@ set_same [] i d x e h = refl
 set_same (y ∷ ys) zero d x e h = ap (λ (z : _). z ∷ ys) (sym e)
 set_same (y ∷ ys) (suc i) d x e h = ap (λ (l : List _). y ∷ l) (set_same ys i d x e (omega (arith, h)))
 
-set_twice : {X : Type 0} (xs : List X) (i : ℕ) (x y : X) → set (set xs i x) i y ≡ set xs i y
-set_twice [] i x y = refl
-set_twice (z ∷ zs) zero x y = refl
-set_twice (z ∷ zs) (suc i) x y = ap (λ (l : List _). z ∷ l) (set_twice zs i x y)
-
 -- the ticket that came last is the only one
 without_new : (ts : List Ticket) (k : Ticket) → ts ≡ [] → without_ticket k.number (ts ++ k ∷ []) ≡ ts
 without_new [] k e = let y : (k.number == k.number) ≡ true = grind (arith, nat_tests) in rw y refl
@@ -201,10 +190,6 @@ hold_leave s a r want none actor inside run tickets =
 
 -- ---- a region that nobody holds has no tickets
 
-no_weight : {X : Type 0} (xs : List X) → total (λ (x : X). 1) xs ≡ 0 → xs ≡ []
-no_weight [] e = refl
-no_weight (x ∷ xs) e = absurd (omega (arith, e))
-
 none_total : {X : Type 0} (f : X → ℕ) (xs : List X) (a : ℕ) (d : X) → length xs ≡ 1 → a < length xs → f (get_or xs a d) ≡ 0 → total f xs ≡ 0
 none_total f [] a d l h e = absurd (omega (arith, l))
 none_total f (y ∷ []) zero d l h e = omega (arith, e)
@@ -231,17 +216,6 @@ looked want c e = elim (cases_Bool (c.tag == tag_of want.key)) [
 
     absent_copied : glance.Absent ≡ glance.Copied → ⊥
     absent_copied e = cc
-
-not_below : (test : Option ℕ → Bool) (ts : List (Option ℕ)) (i g : ℕ) → position_from test i ts ≡ Some g → i ≤ g
-not_below test [] i g h = absurd (some_none h)
-not_below test (t ∷ ts) i g h = elim (cases_Bool (test t)) [
-  | inl p ↦ let e : Some i ≡ Some g = rw p at h in let f : i ≡ g = cc in omega (arith, f)
-  | inr p ↦ let e = rw p at h in omega (arith, not_below test ts (i + 1) g e)
-]
-
-is_tag_at : (tag : ℕ) (t : Option ℕ) → is_tag tag t ≡ true → t ≡ Some tag
-is_tag_at tag None h = absurd (false≢true h)
-is_tag_at tag (Some t) h = let e : t ≡ tag = grind (arith, nat_tests) in ap (λ (n : ℕ). Some n) e
 
 -- what is found has the key
 found_at : (tag : ℕ) (ts : List (Option ℕ)) (i g k : ℕ) → position_from (is_tag tag) i ts ≡ Some g → g ≡ i + k → option_and_then (λ t. t) (slice_get ts k) ≡ Some tag

@@ -26,82 +26,21 @@ use Rattle.cache_door.specs.Machine.{State, Cell, cell_at, hold_at, no_cell, is_
 use Rattle.cache_door.specs.Good.{Good, weigh_hold, hold_gap}
 use Rattle.cache_door.specs.Doors.{hold_view}
 use Rattle.cache_reader.specs.Holds.{Unfailed}
-use Rattle.cache_reader.proofs.Rooms.{found_inside, front_inside}
-
-some_none : {X : Type 0} {x : X} → None ≡ Some x → ⊥
-some_none e = cc
+use Rattle.cache_reader.proofs.Rooms.{found_inside, front_inside, held_same}
+use Rattle.cache_door.proofs.Alone.{no_gaps, one_total, cut_get, take_get, drop_get, all_there, none_pending, weigh_closed}
+use Rattle.cache_door.proofs.OneOwner.{held_inside, some_none}
+use Rattle.cache_door.proofs.Mapping.{no_weight}
+use Rattle.cache_door.proofs.Places.{past}
+use Rattle.cache_door.proofs.ClaimsAbsent.{room_held, gone_held}
+use Rattle.cache_door.proofs.Calls.{tickets_open}
 
 -- ---- lists
-
-pub past : {X : Type 0} (xs : List X) (i : ℕ) (d : X) → length xs ≤ i → get_or xs i d ≡ d
-past [] i d h = refl
-past (x ∷ xs) zero d h = absurd (omega arith)
-past (x ∷ xs) (suc i) d h = past xs i d (omega arith)
-
-no_weight : {X : Type 0} (xs : List X) → total (λ (x : X). 1) xs ≡ 0 → xs ≡ []
-no_weight [] e = refl
-no_weight (x ∷ xs) e = absurd (omega (arith, e))
-
--- a list of one entry weighs what that does
-one_total : {X : Type 0} (f : X → ℕ) (xs : List X) (a : ℕ) (x d : X) → length xs ≡ 1 → a < length xs → get_or xs a d ≡ x → total f xs ≡ f x
-one_total f [] a x d l h e = absurd (omega (arith, l))
-one_total f (y ∷ []) zero x d l h e = let k = ap f e in omega (arith, k)
-one_total f (y ∷ []) (suc a) x d l h e = absurd (omega (arith, h))
-one_total f (y ∷ z ∷ zs) a x d l h e = absurd (omega (arith, l))
-
-take_get : {X : Type 0} (k i : ℕ) (xs : List X) (x : X) → slice_get (take k xs) i ≡ Some x → slice_get xs i ≡ Some x
-take_get zero i xs x e = absurd (some_none e)
-take_get (suc k) i [] x e = absurd (some_none e)
-take_get (suc k) zero (y ∷ ys) x e = e
-take_get (suc k) (suc i) (y ∷ ys) x e = take_get k i ys x e
-
-drop_get : {X : Type 0} (k i : ℕ) (xs : List X) (x : X) → slice_get (drop k xs) i ≡ Some x → (j : ℕ) × (slice_get xs j ≡ Some x)
-drop_get zero i xs x e = (i, e)
-drop_get (suc k) i [] x e = absurd (some_none e)
-drop_get (suc k) i (y ∷ ys) x e = let r = drop_get k i ys x e in (suc r.0, r.1)
-
--- the states of a sub-range are states of the list
-cut_get : {X : Type 0} (start end i : ℕ) (xs : List X) (x : X) → slice_get (slice_range xs start end) i ≡ Some x → (j : ℕ) × (slice_get xs j ≡ Some x)
-cut_get start end i xs x e = drop_get start i xs x (take_get _ i (drop start xs) x e)
 
 get_last : {X : Type 0} (xs : List X) (x : X) → slice_get (xs ++ x ∷ []) (length xs) ≡ Some x
 get_last [] x = refl
 get_last (y ∷ ys) x = get_last ys x
 
-all_there : (ls : List ByteState) → list_any is_absent ls ≡ false → ((i g : ℕ) → slice_get ls i ≡ Some (pending g) → ⊥) → list_all is_present ls ≡ true
-all_there [] e n = refl
-all_there (absent ∷ ls) e n = absurd (false≢true (sym e))
-all_there (pending g ∷ ls) e n = absurd (n 0 g refl)
-all_there (present ∷ ls) e n = all_there ls e (λ i g. n (suc i) g)
-
 -- ---- the only actor
-
-pub held_inside : (s : State) (a : ℕ) (h : Hold) → hold_at s a ≡ Some h → a < length s.holds
-held_inside s a h e = elim (cases_lt a (length s.holds)) [
-  | inl l ↦ l
-  | inr g ↦ absurd (some_none (sym (past s.holds a None g) ∙ e))
-]
-
-weigh_closed : (r : ℕ) (f : ℕ → ℕ → ℕ → ℕ) (h : Hold) → h.gap.end ≤ h.gap.upto → weigh_hold r (hold_gap f) (Some h) ≡ 0
-weigh_closed r f h closed =
-    let t : nat_lt h.gap.upto h.gap.end ≡ false = grind (arith, nat_tests) in
-    rw t (elim (cases_Bool (h.region == r)) [ inl u ↦ rw u refl | inr u ↦ rw u refl ])
-
--- where it holds no open gap, no cell has one
-pub no_gaps : {tells : Bool} {files : ℕ → ℕ → List ℕ} (s : State) (a r : ℕ) (h : Hold) → Good tells files s → length s.holds ≡ 1 → hold_at s a ≡ Some h → h.gap.end ≤ h.gap.upto → r < length s.cells
-    → (cell_at s r).region.tracker.gaps ≡ []
-no_gaps s a r h good one held closed inside =
-    let f : ℕ → ℕ → ℕ → ℕ = λ n i e. 1 in
-    no_weight (cell_at s r).region.tracker.gaps (
-    sym (good.gaps r f inside)
-    ∙ one_total (weigh_hold r (hold_gap f)) s.holds a (Some h) None one (held_inside s a h held) held
-    ∙ weigh_closed r f h closed)
-
-none_pending : (t : Tracker) → GapsFit t → t.gaps ≡ [] → (i g : ℕ) → slice_get t.byte_states i ≡ Some (pending g) → ⊥
-none_pending t fit none i g e =
-    let o = fit.owned i g e in
-    let P : List OpenGap → Type 0 = λ l. slice_get l o.0 ≡ Some o.1 in
-    some_none (subst P none o.2)
 
 unfailed_copied : {tells : Bool} {files : ℕ → ℕ → List ℕ} (s : State) (a : ℕ) → Good tells files s → length s.holds ≡ 1 → (u : Unfailed a s) → u.hold.gap.end ≤ u.hold.gap.upto
     → take_bytes (Some u.hold) s ≡ taken.Copied
@@ -197,10 +136,6 @@ pub record Begun (a r : ℕ) (want : Want) (gap : Option ByteRange) (s : State) 
   pub id : ℕ
   pub gap_is : unfailed.hold.gap ≡ gap_on id gap
 
-tickets_open : (run : Option ByteRange) (t : Tracker) → (open_gap_at run t).tickets ≡ t.tickets
-tickets_open None t = refl
-tickets_open (Some x) t = refl
-
 pub held_begun : (s : State) (a r : ℕ) (want : Want) → a < length s.holds → r < length s.cells
     → Begun a r want (claim_run s.config.range want.sub (cell_at s r).region) (machine.hold a r want s).1
 held_begun s a r want actor inside =
@@ -227,15 +162,6 @@ held_begun s a r want actor inside =
       id = least_unused (ids c.tracker.gaps);
       gap_is = refl;
     }
-
-room_held : {q : ℕ} {o : Option ByteRange} → NoRoom ≡ Held q o → ⊥
-room_held e = cc
-
-gone_held : {q : ℕ} {o : Option ByteRange} → Gone ≡ Held q o → ⊥
-gone_held e = cc
-
-held_same : (r q : ℕ) (o p : Option ByteRange) → Held r o ≡ Held q p → (r ≡ q) × (o ≡ p)
-held_same r q o p e = (cc, cc)
 
 module _ {tells : Bool} {files : ℕ → ℕ → List ℕ} (s : State) (good : Good tells files s) (a : ℕ) (actor : a < length s.holds) (want : Want) (now r : ℕ) (gap : Option ByteRange) where
   -- of this region and gap

@@ -22,38 +22,15 @@ use Rattle.cache_door.specs.Good.{Good}
 use Rattle.cache_door.specs.Doors.{SameState, storing, leaving}
 use Rattle.cache_reader.specs.declared.part.Last.{Last}
 use Rattle.cache_reader.specs.Alone.{Fits, LastFits, SamePolicy}
-
-some_none : {X : Type 0} {x : X} → None ≡ Some x → ⊥
-some_none e = cc
+use Rattle.cache_door.proofs.OneOwner.{some_none}
+use Rattle.cache_door.proofs.ClaimsAbsent.{room_held, gone_held}
+use Rattle.cache_door.proofs.Places.{kept_in, is_same}
+use Rattle.freq_lists.proofs.Counts.{same_is}
+use Rattle.cache_door.proofs.Fronts.{in_times, placed_inside as below}
+use Rattle.cache_door.proofs.Mapping.{head_in}
+use Rattle.cache_door.proofs.Enters.{find_unmapped, evicted_find, room_find}
 
 -- ---- members of lists
-
-is_same : (a b : ℕ) → (a == b) ≡ true → a ≡ b
-is_same a b e = grind (arith, nat_tests)
-
-same_is : (a b : ℕ) → a ≡ b → (a == b) ≡ true
-same_is a b e = grind (arith, nat_tests)
-
-kept_in : (p : ℕ → Bool) (r : ℕ) (xs : List ℕ) → is_in r (filter p xs) ≡ true → is_in r xs ≡ true
-kept_in p r [] e = e
-kept_in p r (x ∷ xs) e = elim (cases_Bool (x == r)) [
-  | inl t ↦ rw t refl
-  | inr f ↦ rw f (elim (cases_Bool (p x)) [
-    | inl t ↦ kept_in p r xs (rw (t, f) at e)
-    | inr g ↦ kept_in p r xs (rw g at e)
-  ])
-]
-
-head_in : (r : ℕ) (xs : List ℕ) → head xs ≡ Some r → is_in r xs ≡ true
-head_in r [] e = absurd (cc)
-head_in r (x ∷ xs) e = let i : x ≡ r = (cc) in rw (same_is x r i) refl
-
-in_times : (r : ℕ) (xs : List ℕ) → is_in r xs ≡ true → 0 < times_in r xs
-in_times r [] e = absurd (false≢true e)
-in_times r (x ∷ xs) e = elim (cases_Bool (x == r)) [
-  | inl t ↦ rw t (omega arith)
-  | inr f ↦ let k = in_times r xs (rw f at e) in omega (arith, k)
-]
 
 listed_times : (r : ℕ) (ls : List (List ℕ)) → is_in r (candidates_in ls) ≡ true → 0 < times r ls
 listed_times r [] e = absurd (false≢true e)
@@ -94,12 +71,6 @@ settled_all (r ∷ rs) p = let k = settled_all rs (settle r p) in record {
   delta = k.delta;
   free = k.free ∙ append_one p.free r rs;
 }
-
-below : (p : PolicyView) (r : ℕ) → policy.IsGood p → 0 < policy.places p r → r < length p.tags
-below p r good some = elim (cases_lt r (length p.tags)) [
-  | inl l ↦ l
-  | inr g ↦ absurd (let n = good.none_else r g in omega (arith, n, some))
-]
 
 module _ (holds : List (Option Hold)) (p : PolicyView) (good : policy.IsGood p) where
   abbrev rs : List ℕ
@@ -147,17 +118,6 @@ module _ (holds : List (Option Hold)) (p : PolicyView) (good : policy.IsGood p) 
 
 -- ---- what a search for the key finds then
 
-find_unmapped : (tag i r : ℕ) (ts : List (Option ℕ)) → position_from (is_tag tag) i ts ≡ None → position_from (is_tag tag) i (set ts r None) ≡ None
-find_unmapped tag i r [] e = refl
-find_unmapped tag i zero (t ∷ ts) e = elim (cases_Bool (is_tag tag t)) [
-  | inl y ↦ absurd (some_none (sym (rw y at e)))
-  | inr n ↦ rw n at e
-]
-find_unmapped tag i (suc r) (t ∷ ts) e = elim (cases_Bool (is_tag tag t)) [
-  | inl y ↦ absurd (some_none (sym (rw y at e)))
-  | inr n ↦ rw n (find_unmapped tag (i + 1) r ts (rw n at e))
-]
-
 find_mapped : (tag i r : ℕ) (ts : List (Option ℕ)) → position_from (is_tag tag) i ts ≡ None → r < length ts → position_from (is_tag tag) i (set ts r (Some tag)) ≡ Some (i + r)
 find_mapped tag i r [] e h = absurd (omega (arith, h))
 find_mapped tag i zero (t ∷ ts) e h = let y : (tag == tag) ≡ true = same_is tag tag refl in let z : i ≡ i + 0 = omega arith in rw y (ap (λ (k : ℕ). Some k) z)
@@ -172,19 +132,6 @@ find_inside tag i r (t ∷ ts) e = elim (cases_Bool (is_tag tag t)) [
   | inl y ↦ let f : Some i ≡ Some r = rw y at e in let g : i ≡ r = (cc) in omega (arith, g)
   | inr n ↦ let k = find_inside tag (i + 1) r ts (rw n at e) in omega (arith, k)
 ]
-
-evicted_find : (tag : ℕ) (o : Option ℕ) (p : PolicyView) → find tag p ≡ None → find tag (evicted o p) ≡ None
-evicted_find tag None p e = e
-evicted_find tag (Some r) p e = find_unmapped tag 0 r p.tags e
-
-room_find : (tag : ℕ) (holds : List (Option Hold)) (p : PolicyView) → find tag p ≡ None → find tag (room_by holds p) ≡ None
-room_find tag holds p e =
-    let s = settled_by holds p in
-    let f : find tag s ≡ None = ap (λ (l : List (Option ℕ)). position_from (is_tag tag) 0 l) (settled_all (unheld_by holds p.leaving) p).tags ∙ e in
-    elim (cases_Bool (0 == length s.free)) [
-      | inl t ↦ rw t (evicted_find tag (head (unheld_by holds (candidates s))) s f)
-      | inr n ↦ rw n f
-    ]
 
 -- ---- an access at the time of the last one changes nothing
 
@@ -216,13 +163,7 @@ touch_find tag p r now = ap (λ (l : List (Option ℕ)). position_from (is_tag t
 
 -- ---- the entry
 
-room_held : {q : ℕ} {o : Option ByteRange} → NoRoom ≡ Held q o → ⊥
-room_held e = cc
-
-gone_held : {q : ℕ} {o : Option ByteRange} → Gone ≡ Held q o → ⊥
-gone_held e = cc
-
-held_same : (r q : ℕ) (o p : Option ByteRange) → Held r o ≡ Held q p → (r ≡ q) × (o ≡ p)
+pub held_same : (r q : ℕ) (o p : Option ByteRange) → Held r o ≡ Held q p → (r ≡ q) × (o ≡ p)
 held_same r q o p e = (cc, cc)
 
 module _ {tells : Bool} {files : ℕ → ℕ → List ℕ} (s : State) (good : Good tells files s) where

@@ -22,6 +22,11 @@ use Rattle.cache_door.specs.Takes.{after}
 use Rattle.cache_reader.specs.Parts.{ReadSetting, bytes_of}
 use Rattle.cache_reader.specs.Stored.{rest_stored, gap_stored, StoredTo}
 use Rattle.cache_reader.proofs.Fills.{slice_length, slice_joined}
+use Rattle.cache_door.proofs.Found.{heavy}
+use Rattle.cache_door.proofs.OneOwner.{held_inside as actor_inside, some_none as none_some}
+use Rattle.cache_door.proofs.Places.{is_same}
+use Rattle.freq_lists.proofs.Counts.{same_is}
+use Rattle.cache_door.proofs.Weighs.{total-at as total_at}
 
 -- ---- bytes: a piece behind a piece
 
@@ -121,12 +126,6 @@ progress_more g to more t le h = same_tracker t _ _ _ _ (byte_states_more g to m
 abbrev mark : ℕ → ℕ → ℕ → ℕ → ℕ → ℕ → ℕ
 mark a b d x y z = cond (x == a) (cond (y == b) (cond (z == d) 1 0) 0) 0
 
-same_is : (a b : ℕ) → a ≡ b → (a == b) ≡ true
-same_is a b e = grind (arith, nat_tests)
-
-is_same : (a b : ℕ) → (a == b) ≡ true → a ≡ b
-is_same a b e = grind (arith, nat_tests)
-
 marked : (a b d x y z : ℕ) → 0 < mark a b d x y z → (x ≡ a) × (y ≡ b) × (z ≡ d)
 marked a b d x y z h = elim (cases_Bool (x == a)) [
   | inl i ↦ elim (cases_Bool (y == b)) [
@@ -141,29 +140,6 @@ marked a b d x y z h = elim (cases_Bool (x == a)) [
 
 mark_self : (a b d : ℕ) → mark a b d a b d ≡ 1
 mark_self a b d = rw (same_is a a refl, same_is b b refl, same_is d d refl) refl
-
--- an entry weighs at most what the list does, and in a list that weighs something one does
-total_at : {X : Type 0} (f : X → ℕ) (xs : List X) (i : ℕ) (d : X) → i < length xs → f (get_or xs i d) ≤ total f xs
-total_at f [] i d h = absurd (omega arith)
-total_at f (x ∷ xs) zero d h = omega arith
-total_at f (x ∷ xs) (suc i) d h = let k = total_at f xs i d (omega arith) in omega (arith, k)
-
-heavy : {X : Type 0} (f : X → ℕ) (xs : List X) → 0 < total f xs → (j : ℕ) × ((x : X) × (slice_get xs j ≡ Some x) × (0 < f x))
-heavy f [] h = absurd (omega (arith, h))
-heavy f (x ∷ xs) h = elim (cases_lt 0 (f x)) [
-  | inl l ↦ (0, (x, refl, l))
-  | inr g ↦ let k = heavy f xs (omega (arith, h, g)) in (suc k.0, k.1)
-]
-
-none_some : {X : Type 0} {x : X} → None ≡ Some x → ⊥
-none_some e = cc
-
--- an actor that holds something is one of the actors
-pub actor_inside : (s : State) (a : ℕ) (h : Hold) → hold_at s a ≡ Some h → a < length s.holds
-actor_inside s a h e = elim (cases_lt a (length s.holds)) [
-  | inl l ↦ l
-  | inr g ↦ absurd (none_some (sym (get_or_past s.holds a None g) ∙ e))
-]
 
 hold_weighs : (s : State) (a : ℕ) (h : Hold) → hold_at s a ≡ Some h → h.gap.upto < h.gap.end
     → 1 ≤ total (weigh_hold h.region (hold_gap (mark h.gap.id h.gap.upto h.gap.end))) s.holds

@@ -4,9 +4,10 @@ use Rattle.std.proofs.lemmas.List.{length-append}
 use Rattle.freq_lists.specs.Lists.{list_at}
 use Rattle.cache_policy.specs.Steps.{lowering, goes_down}
 use Rattle.cache_policy.proofs.Lowered.{take_whole}
-use Rattle.cache_policy.proofs.Lowers.{there, none_at, some_at, goes_one, stays_one, kept, lowered, next_is, times_unlink, length-unlink, length-lowering}
+use Rattle.cache_policy.proofs.Lowers.{there, none_at, some_at, goes_one, stays_one, kept, lowered, next_is, length-lowering}
 use Rattle.cache_policy.proofs.lower.lower_list.Goals as goal
 use Rattle.cache_policy.proofs.lower.lower_list.Goals.{then-goes_down, else-goes_down}
+use Rattle.freq_lists.proofs.Counts.{times_unlink, length_unlink as length-unlink}
 
 pub goes_down-requires : goal.goes_down-requires
 goes_down-requires c =

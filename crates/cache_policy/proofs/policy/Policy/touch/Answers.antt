@@ -1,8 +1,8 @@
 use Rattle.std.proofs.Common.{arith, ◌<◌, ◌+◌, ◌∙◌, length}
 use Rattle.cache_policy.specs.Fields.{view_of}
-use Rattle.cache_policy.proofs.Lowers.{times_unlink}
 use Rattle.cache_policy.proofs.Good.{good_raise}
 use Rattle.cache_policy.proofs.policy.Policy.touch.Goals as goal
+use Rattle.freq_lists.proofs.Counts.{times_unlink}
 
 pub push_back-requires-clause-free : goal.push_back-requires-clause-free
 push_back-requires-clause-free c = rw c.unlink.ensures.lists (times_unlink c.args.region c.self.inside.lists.lists)
