@@ -1,5 +1,6 @@
 // The top call: what the words ask for, done with the sources and written to the sink.
-ghost use Rattle.std.specs.Prelude.{◌≡◌, ◌<◌, ◌++◌, List, ℕ, length, map, drop, Some, option_map, true, codes, string_bytes};
+ghost use Rattle.std.specs.Prelude.{◌≡◌, ◌<◌, ◌++◌, List, ℕ, true, Some, length, map, drop};
+ghost use Rattle.std.specs.Prelude.{option_map, codes, string_bytes};
 ghost use Rattle.mount_tool.specs.Runs.{IsWritten, IsTermRun, IsUsageRun, count_of, is_usage};
 ghost use Rattle.mount_tool.specs.Words.{Term, term_words, texts};
 ghost use Rattle.mount_script.specs.Replies.{text_of};
@@ -103,7 +104,8 @@ pub fn mount_tool<A: Archive, S: BlobSource<A> + Drop, K: Sink>(
         (count_of (λ s. (S.view s).faults) result.sources.items 0) (K.view sink.old) (K.view sink.new) result.status }
 
     // The sources come back in number and order, and only the first one was read.
-    ensures sources { map (λ s. (S.view s).identity) result.sources.items ≡ map (λ s. (S.view s).identity) sources.items }
+    ensures sources { map (λ s. (S.view s).identity) result.sources.items
+        ≡ map (λ s. (S.view s).identity) sources.items }
     ensures others { drop 1 result.sources.items ≡ drop 1 sources.items }
 {
     let Some(words) = term_of(words) else {

@@ -6,10 +6,11 @@ use std::fs;
 use std::test::Fail;
 
 const MANIFEST_W: &[u8] =
-    b"{\"version\":1,\"files\":[{\"name\":\"__w\",\"physical_name\":\"_0.pst\",\"length\":136}],\"segments\":[{\"name\":\"_0\",\"docs\":3,\"postings\":\"_0.pst\"}]}";
+    b"{\"version\":1,\"files\":[{\"name\":\"__w\",\"physical_name\":\"_0.pst\",\"length\":136}],\
+    \"segments\":[{\"name\":\"_0\",\"docs\":3,\"postings\":\"_0.pst\"}]}";
 
-const POSTINGS_W: &[u8] =
-    b"field body\n  term fox\n    doc 0\n      freq 1\n    doc 2\n      freq 1\n  term red\n    doc 0\n      freq 1\nEND\nchecksum 00000000000000000000\n";
+const POSTINGS_W: &[u8] = b"field body\n  term fox\n    doc 0\n      freq 1\n    \
+    doc 2\n      freq 1\n  term red\n    doc 0\n      freq 1\nEND\nchecksum 00000000000000000000\n";
 
 #[test]
 fn a_folder(rt: HostRuntime) -> Result<(), Fail> {

@@ -112,19 +112,24 @@ const EMPTY: &[u8] = b"END\nchecksum 00000000000000000000\n";
 const CUT_OFF: &[u8] = b"END\nchecksum 00000000000000000000";
 
 const LIVE: &[u8] =
-    b"{\"version\":1,\"files\":[{\"name\":\"__a\",\"physical_name\":\"p\",\"length\":34}],\"segments\":[{\"name\":\"s\",\"docs\":1,\"postings\":\"p\",\"live\":\"p\"}]}";
+    b"{\"version\":1,\"files\":[{\"name\":\"__a\",\"physical_name\":\"p\",\"length\":34}],\
+    \"segments\":[{\"name\":\"s\",\"docs\":1,\"postings\":\"p\",\"live\":\"p\"}]}";
 
 const PLAIN: &[u8] =
-    b"{\"version\":1,\"files\":[{\"name\":\"__a\",\"physical_name\":\"p\",\"length\":34}],\"segments\":[{\"name\":\"s\",\"docs\":1,\"postings\":\"p\"}]}";
+    b"{\"version\":1,\"files\":[{\"name\":\"__a\",\"physical_name\":\"p\",\"length\":34}],\
+    \"segments\":[{\"name\":\"s\",\"docs\":1,\"postings\":\"p\"}]}";
 
 const LONG: &[u8] =
-    b"{\"version\":1,\"files\":[{\"name\":\"__a\",\"physical_name\":\"p\",\"length\":1099511623681}],\"segments\":[{\"name\":\"s\",\"docs\":1,\"postings\":\"p\"}]}";
+    b"{\"version\":1,\"files\":[{\"name\":\"__a\",\"physical_name\":\"p\",\"length\":1099511623681}],\
+    \"segments\":[{\"name\":\"s\",\"docs\":1,\"postings\":\"p\"}]}";
 
 const DOUBLE: &[u8] =
-    b"{\"version\":1,\"files\":[{\"name\":\"__a\",\"physical_name\":\"p\",\"length\":34},{\"name\":\"__b\",\"physical_name\":\"p\",\"length\":34}],\"segments\":[{\"name\":\"s\",\"docs\":1,\"postings\":\"p\"}]}";
+    b"{\"version\":1,\"files\":[{\"name\":\"__a\",\"physical_name\":\"p\",\"length\":34},{\"name\":\"__b\",\
+    \"physical_name\":\"p\",\"length\":34}],\"segments\":[{\"name\":\"s\",\"docs\":1,\"postings\":\"p\"}]}";
 
 const NO_FILE: &[u8] =
-    b"{\"version\":1,\"files\":[{\"name\":\"__a\",\"physical_name\":\"p\",\"length\":34}],\"segments\":[{\"name\":\"s\",\"docs\":1,\"postings\":\"g\"}]}";
+    b"{\"version\":1,\"files\":[{\"name\":\"__a\",\"physical_name\":\"p\",\"length\":34}],\
+    \"segments\":[{\"name\":\"s\",\"docs\":1,\"postings\":\"g\"}]}";
 
 #[test]
 fn refusals(rt: HostRuntime) -> Result<(), AllocError> {
