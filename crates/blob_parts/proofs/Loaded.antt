@@ -53,13 +53,13 @@ judged name blobs m b text (Err (Manifest e)) number place same h =
 judged name blobs m b text (Err Fault) number place same h = absurd h
 judged name blobs m b text (Err NoMemory) number place same h = tt
 
-pub judged_takes : (t u : Option (List (ℕ × ℕ × ℕ))) (places : List (ℕ × ℕ)) (m : ℕ) (result : Result (ℕ × Facts) LoadError) (wanted : Result Facts ManifestError)
-    → Took t u places → Judges m result wanted → LoadTakes t u places result
-judged_takes t u places m (Ok loaded) wanted took h = took
-judged_takes t u places m (Err Missing) wanted took h = absurd h
-judged_takes t u places m (Err (Manifest e)) wanted took h = took
-judged_takes t u places m (Err Fault) wanted took h = absurd h
-judged_takes t u places m (Err NoMemory) wanted took h = (length places, rw (take-length places) took)
+pub judged_takes : (t u : Option (List (ℕ × ℕ × ℕ))) (places : List (ℕ × ℕ)) (m : ℕ) (result : Result (ℕ × Facts) LoadError) (expected : Result Facts ManifestError)
+    → Took t u places → Judges m result expected → LoadTakes t u places result
+judged_takes t u places m (Ok loaded) expected took h = took
+judged_takes t u places m (Err Missing) expected took h = absurd h
+judged_takes t u places m (Err (Manifest e)) expected took h = took
+judged_takes t u places m (Err Fault) expected took h = absurd h
+judged_takes t u places m (Err NoMemory) expected took h = (length places, rw (take-length places) took)
 
 -- all bytes of the blob are all that was asked
 pub took_asked : (t u v : Option (List (ℕ × ℕ × ℕ))) (name : List ℕ) (blobs : Listing) (b size : ℕ)

@@ -92,7 +92,7 @@ spread reads = flat_map spread_one reads
 
 -- ---- whether the parts are there
 
--- a part that is missing, or one of another size than its file says: the size that it has, and the one wanted
+-- a part that is missing, or one of another size than its file says: the size that it has, and the expected one
 pub data PartRefusal : Type 0 where
   no_part : List ℕ → PartRefusal
   other_size : List ℕ → ℕ → ℕ → PartRefusal
@@ -110,7 +110,7 @@ abbrev pub missing_part : Listing → FileRecord → ℕ → Option PartRefusal
 missing_part blobs f k = if is_none (place_of (part_name f k) blobs) then Some (no_part (part_name f k)) else None
 
 abbrev pub size_refusal : List ℕ → ℕ → ℕ → Option PartRefusal
-size_refusal name told wanted = if told == wanted then None else Some (other_size name told wanted)
+size_refusal name size expected = if size == expected then None else Some (other_size name size expected)
 
 abbrev pub wrong_part : Listing → FileRecord → ℕ → Option PartRefusal
 wrong_part blobs f k = size_refusal (part_name f k) (length (part_bytes blobs f k)) (part_length f.length f.part_size k)

@@ -12,8 +12,8 @@ use Rattle.query_lang.specs.Trees.{Tree, Trees, no_trees, tree, compound, tree_o
 use Rattle.query_lang.specs.declared.query.Query.{Query}
 use Rattle.shard_search.specs.Matches.{matches, all_match, some_match, count_match, is_empty, needed}
 use Rattle.shard_search.specs.Sets.{each_of}
-use Rattle.shard_search.proofs.ListLemmas.{drop_get}
 use Rattle.shard_search.proofs.SetLemmas.{zip_join, zip_unit, and_is, and_true, drop_is, drop_none, with_count, count_is, plus_zero, combined, map_same}
+use Rattle.byte_text.proofs.Lists.{drop_get}
 
 module _ {A C : Type 0} (f : A → Bool → A) (h : A → C → A) (k : Bool → C → C) (e : C) (law : (a : A) (b : Bool) (c : C) → h (f a b) c ≡ h a (k b c)) (unit : (a : A) → h a e ≡ a)
     (has : List ℕ → List ℕ → ℕ → Bool) (fold : Trees → ℕ → C) (folds : (q : Tree) (qs : Trees) → fold (tree q qs) ≡ (λ d. k (matches has q d) (fold qs d))) (ends : fold no_trees ≡ (λ d. e))

@@ -14,7 +14,7 @@ use Rattle.shard_search.specs.Answers.{RefusesBy, put_hits, pair_of, hit, IsHitO
 use Rattle.shard_search.specs.declared.error.SearchError.{SearchError}
 use Rattle.shard_search.specs.declared.error.SearchError.TheVariants.{Bad, Bytes}
 use Rattle.shard_search.specs.declared.hits.Hit.{Hit}
-use Rattle.shard_search.proofs.ListLemmas.{drop_get}
+use Rattle.byte_text.proofs.Lists.{drop_get}
 
 -- ---- one document more is shown
 

@@ -7,6 +7,7 @@ use Rattle.std.proofs.lemmas.List.FromFn.{length-range_with_len, length-map-rang
 use Rattle.doc_bits.specs.Places.{zip_with, and_not, places_of}
 use Rattle.doc_bits.specs.Counts.{counted}
 use Rattle.shard_search.specs.Sets.{each_of}
+use Rattle.doc_bits.proofs.Lists.{filter-range_same as filter_same}
 
 pub and_is : (a b c : Bool) → ((a && b) && c) ≡ (a && (b && c))
 and_is true b c = refl
@@ -131,12 +132,6 @@ pub put_is : (set : List Bool) (k docs : ℕ) → length set ≡ docs → slice_
 put_is set k docs n = put_from set k 0 k (omega arith) ∙ ap (λ m. zip_with ◌||◌ set (map (λ d. k == d) (range_with_len 0 m))) n
 
 -- ---- the places of a set
-
-filter_same : (p q : ℕ → Bool) (a n : ℕ) → ((i : ℕ) → a ≤ i → i < a + n → p i ≡ q i) → filter p (range_with_len a n) ≡ filter q (range_with_len a n)
-filter_same p q a zero same = refl
-filter_same p q a (suc n) same =
-    let rest = filter_same p q (a + 1) n (λ i low high. same i (omega arith) (omega arith)) in
-    rw (same a (omega arith) (omega arith), rest) refl
 
 pub places_each : (p : ℕ → Bool) (docs : ℕ) → places_of (each_of p docs) ≡ filter p (range_with_len 0 docs)
 places_each p docs =

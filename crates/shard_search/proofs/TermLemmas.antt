@@ -10,8 +10,8 @@ use Rattle.simpletext_postings.specs.Terms.{posting_doc, posting_of, postings_wi
 use Rattle.simpletext_postings.specs.declared.rows.Row.{Row}
 use Rattle.simpletext_postings.specs.declared.posting.Posting.{Posting}
 use Rattle.shard_search.specs.Sets.{each_of, has_posting}
-use Rattle.shard_search.proofs.ListLemmas.{drop_get}
 use Rattle.shard_search.proofs.SetLemmas.{zip_join, zip_unit, or_is, or_false, put_is, each_same}
+use Rattle.byte_text.proofs.Lists.{drop_get}
 
 pub one_more : (postings : List Posting) (i docs : ℕ) (p : Posting) (set new whole : List Bool) → slice_get postings i ≡ Some p → length set ≡ docs → new ≡ slice_set set p.doc true
     → zip_with ◌||◌ set (each_of (has_posting (drop i postings)) docs) ≡ whole
