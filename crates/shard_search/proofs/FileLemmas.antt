@@ -1,8 +1,7 @@
 -- What the files of a segment say.
-use Rattle.std.proofs.Common.{◌≡◌, ℕ, ◌+◌, ◌<◌, ◌≤◌, Bool, true, false, List, [], ◌∷◌, length, take, drop, filter, sym, refl, ap, ◌∙◌, arith, Option, Some, None, Ok, Err}
+use Rattle.std.proofs.Common.{◌≡◌, ℕ, ◌<◌, Bool, List, length, filter, sym, refl, ap, ◌∙◌, arith, Option, Some, None, Ok, Err}
 use Rattle.std.specs.Prelude.{Result, IsTrue, IfSome, MatchOption, ◌&&◌}
 use Rattle.std.specs.Option.{ForSome}
-use Rattle.std.specs.List.{range_with_len}
 use Rattle.std.proofs.lemmas.List.{take_all}
 use Rattle.directory_input.specs.Files.{FilesView}
 use Rattle.directory_input.specs.Windows.{Window, FitsFile, window_bytes}
@@ -15,7 +14,7 @@ use Rattle.simpletext_postings.specs.Terms.{Opens}
 use Rattle.simpletext_postings.specs.declared.rows.Row.{Row}
 use Rattle.query_lang.specs.Trees.{Tree}
 use Rattle.shard_search.specs.Matches.{matches}
-use Rattle.shard_search.specs.Hits.{BadFile, in_file, live_in, segment_docs, has_in, ◌>>=◌}
+use Rattle.shard_search.specs.Hits.{in_file, live_in, segment_docs, has_in, ◌>>=◌}
 use Rattle.shard_search.specs.Answers.{RefusesBy, NamesFile, refused_in}
 use Rattle.shard_search.specs.Answers as answers
 use Rattle.shard_search.specs.Sets.{each_of}

@@ -1,5 +1,5 @@
 -- From one state of what gives the bytes to a later one.
-use Rattle.std.proofs.Common.{◌≡◌, ℕ, List, [], ◌++◌, Option, Some, None, ap, ◌∙◌, refl, Ok, Err}
+use Rattle.std.proofs.Common.{◌≡◌, ℕ, List, [], Option, Some, None, ap, ◌∙◌, Ok, Err}
 use Rattle.std.specs.Prelude.{Result, IfOk}
 use Rattle.directory_input.specs.Reads.{Read}
 use Rattle.directory_input.specs.Files.{GoesOn}

@@ -1,5 +1,5 @@
 -- One segment more.
-use Rattle.std.proofs.Common.{◌≡◌, ℕ, List, [], ◌∷◌, ◌++◌, ◌+◌, ◌-◌, ◌*◌, ◌^◌, ◌≤◌, ◌<◌, min, Some, None, Option, refl, ap, sym, ◌∙◌, arith, take, drop, Bool, true, false, map, length, get_or, zero, suc}
+use Rattle.std.proofs.Common.{◌≡◌, ℕ, List, [], ◌∷◌, ◌++◌, ◌+◌, ◌-◌, ◌≤◌, ◌<◌, min, Some, refl, ap, sym, ◌∙◌, arith, take, drop, Bool, false, map, length, zero, suc}
 use Rattle.std.specs.Prelude.{Result, Ok, Err, slice_get, slice_index_or, All}
 use Rattle.std.specs.List.{range_with_len}
 use Rattle.std.proofs.lemmas.List.{append_assoc, append-nil, map-append, take-map, length-map, length-append, length-take}

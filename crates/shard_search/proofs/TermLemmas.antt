@@ -1,12 +1,12 @@
 -- The documents of a term's postings.
-use Rattle.std.proofs.Common.{◌≡◌, ℕ, zero, suc, ◌+◌, ◌<◌, ◌≤◌, Bool, true, false, List, [], ◌∷◌, length, map, filter, sym, refl, ap, ◌∙◌, arith, Some, drop}
-use Rattle.std.specs.Prelude.{slice_get, slice_set, ◌&&◌, ◌||◌, ◌==◌}
-use Rattle.std.specs.List.{range_with_len, list_any}
+use Rattle.std.proofs.Common.{◌≡◌, ℕ, zero, suc, ◌+◌, ◌<◌, ◌≤◌, Bool, true, false, List, [], ◌∷◌, length, map, sym, refl, ap, ◌∙◌, arith, Some, drop}
+use Rattle.std.specs.Prelude.{slice_get, slice_set, ◌||◌, ◌==◌}
+use Rattle.std.specs.List.{range_with_len}
 use Rattle.std.proofs.lemmas.List.{drop_all}
 use Rattle.std.proofs.lemmas.List.FromFn.{length-range_with_len}
 use Rattle.doc_bits.specs.Places.{zip_with}
 use Rattle.simpletext_postings.specs.Rows.{RiseWithin, is_of, has_row}
-use Rattle.simpletext_postings.specs.Terms.{posting_doc, posting_of, postings_with}
+use Rattle.simpletext_postings.specs.Terms.{posting_doc, postings_with}
 use Rattle.simpletext_postings.specs.declared.rows.Row.{Row}
 use Rattle.simpletext_postings.specs.declared.posting.Posting.{Posting}
 use Rattle.shard_search.specs.Sets.{each_of, has_posting}

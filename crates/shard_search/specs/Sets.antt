@@ -1,5 +1,5 @@
 -- A set of documents by what its members have.
-use Rattle.std.specs.Prelude.{ℕ, ◌≡◌, ◌==◌, Bool, List, map, Result, Ok}
+use Rattle.std.specs.Prelude.{ℕ, ◌≡◌, ◌==◌, Bool, List, map, Ok}
 use Rattle.std.specs.List.{range_with_len, list_any}
 use Rattle.directory_input.specs.Windows.{window_bytes}
 use Rattle.simpletext_postings.specs.Postings.{postings}

@@ -1,10 +1,10 @@
-use Rattle.std.proofs.Common.{[], ◌≡◌, ◌+◌, ap, sym, ◌∙◌, Some, length, map, arith, rules}
+use Rattle.std.proofs.Common.{[], ◌≡◌, ◌+◌, ap, sym, ◌∙◌, Some, length, map}
 use Rattle.std.specs.Prelude.{◌&&◌, nat_le}
 use Rattle.std.specs.List.{range_with_len}
 use Rattle.std.proofs.lemmas.Option.{slice_get-get_or}
 use Rattle.doc_bits.specs.Counts.{Counted}
 use Rattle.doc_bits.specs.Places.{zip_with}
-use Rattle.query_lang.specs.Trees.{match_all, term, compound, tree_of, trees_of}
+use Rattle.query_lang.specs.Trees.{match_all, term, tree_of, trees_of}
 use Rattle.shard_search.specs.Hits.{has_in}
 use Rattle.shard_search.specs.Matches.{count_match, matches}
 use Rattle.shard_search.specs.Sets.{each_of}

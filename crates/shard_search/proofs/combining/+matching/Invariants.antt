@@ -1,4 +1,4 @@
-use Rattle.std.proofs.Common.{◌≡◌, ℕ, ◌+◌, List, length, drop, map, None}
+use Rattle.std.proofs.Common.{◌≡◌, ◌+◌, List, length, drop, map, None}
 use Rattle.std.specs.Prelude.{IsTrue, ◌&&◌}
 use Rattle.doc_bits.specs.Places.{zip_with, and_not}
 use Rattle.directory_input.specs.Files.{GoesOn}

@@ -1,4 +1,4 @@
-use Rattle.std.proofs.Common.{◌≡◌, ◌≤◌, ◌*◌, ◌+◌, min, List, ℕ, drop, length, map, take, None}
+use Rattle.std.proofs.Common.{◌≡◌, ◌≤◌, ◌*◌, min, List, ℕ, drop, length, map, take, None}
 use Rattle.std.specs.Prelude.{IsTrue, All}
 use Rattle.directory_input.specs.Files.{GoesOn}
 use Rattle.directory_input.specs.Causes.{HasBytesCause}

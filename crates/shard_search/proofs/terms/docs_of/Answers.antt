@@ -1,5 +1,5 @@
 use Rattle.std.proofs.Common.{ap, sym, ◌∙◌, Some, arith, length}
-use Rattle.std.specs.Prelude.{slice_set, true}
+use Rattle.std.specs.Prelude.{true}
 use Rattle.std.proofs.lemmas.Option.{slice_get-get_or}
 use Rattle.std.proofs.Math.ListN.{length-set}
 use Rattle.shard_search.specs.Sets.{has_posting}

@@ -1,4 +1,4 @@
-use Rattle.std.proofs.Common.{[], true, false, drop, sym, refl, subst, ap, ◌∙◌}
+use Rattle.std.proofs.Common.{true, false, drop, sym, refl, subst, ap, ◌∙◌}
 use Rattle.std.proofs.lemmas.Result.{err_from_is_err_and}
 use Rattle.directory_input.specs.Windows.{window_bytes, moved_to}
 use Rattle.text_lines.specs.Lines.{cut}
