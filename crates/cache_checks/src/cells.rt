@@ -1,15 +1,17 @@
 //! A cell step by step: a region of 8,192 bytes of the file of 10,000 counted bytes, in ranges of 4,096.
 
-ghost use Rattle.std.specs.Prelude.{◌≡◌, IfOk, IfSome, OnOk, length};
+ghost use Rattle.std.specs.Prelude.{◌≡◌, ◌<◌, IfOk, IfSome, OnOk, length};
 ghost use Rattle.blob_parts.specs.Pieces.{IsPieceAt};
+ghost use Rattle.blob_parts.specs.Tables.{file_length};
 ghost use Rattle.cache_checks.specs.CellSteps.{IsAt, fresh, claimed, begun, joined, lost};
 
 use crate::faulty::Faulty;
 use crate::samples::{ONE, sample_source, table_of};
-use blob_parts::{Piece, fetch};
-use cache_outside::{FrameFault, Untold};
+use blob_parts::{FetchError, PartTable, Piece, fetch};
+use cache_outside::{FrameFault, MemSource};
 use region_cell::{RegionCell, Taken};
-use region_ranges::{ByteRange, Config, RegionKey};
+use region_ranges::{ByteRange, Config, RegionKey, region_len};
+use sample_archive::SampleArchive;
 use sparse_tracker::{Claim, Gap};
 use std::alloc::{AllocError, Global};
 use std::process::Abort;
@@ -20,23 +22,37 @@ const CONFIG: Config = Config {
     ..ONE
 };
 
-type Cell = RegionCell<Untold, Faulty>;
+type Cell = RegionCell<SampleArchive, Faulty>;
+
+// The table of the file.
+fn counted(
+    rt: &(impl Abort + AllocGlobal),
+    source: &mut MemSource<SampleArchive>,
+) -> Option<PartTable<SampleArchive>>
+    ensures { IfSome result (λ t. (t.number ≡ 2) × (0 < length t.files) × (file_length t 0 ≡ 10000)) }
+{
+    let table = table_of(rt, rt.alloc(), source, "mount-y");
+    if table.number() != 2 || table.files() == 0 || table.length(0) != 10_000 {
+        return None;
+    }
+    Some(table)
+}
 
 // The first 150 bytes of the file.
-fn piece(rt: &(impl Abort + AllocGlobal)) -> Result<Option<Piece<Untold>>, AllocError>
-    ensures { IfOk result (λ p. IfSome p (IsPieceAt 2 0 0 150)) }
+fn piece(
+    alloc: Global,
+    source: &mut MemSource<SampleArchive>,
+    table: &PartTable<SampleArchive>,
+) -> Result<Piece<SampleArchive>, FetchError>
+    requires { (table.now.number ≡ 2) × (0 < length table.now.files) × (file_length table.now 0 ≡ 10000) }
+    ensures { IfOk result (IsPieceAt 2 0 0 150) }
 {
-    let alloc = rt.alloc();
-    let mut source = sample_source(rt, alloc, Vec::new(alloc))?;
-    let table = table_of(rt, alloc, &mut source, "mount-y");
-    if table.number() != 2 || table.files() == 0 || table.length(0) != 10_000 {
-        return Ok(None);
-    }
-    Ok(fetch(alloc, &mut source, &table, 0, 0, 150).ok())
+    fetch(alloc, source, table, 0, 0, 150)
 }
 
 // A cell for the file's first region.
-fn first(alloc: Global) -> Result<Cell, AllocError>
+fn first(alloc: Global, table: &PartTable<SampleArchive>) -> Result<Cell, AllocError>
+    requires { (table.now.number ≡ 2) × (0 < length table.now.files) × (file_length table.now 0 ≡ 10000) }
     ensures { IfOk result (λ c. IsAt fresh c.metadata) }
 {
     let mut cell = Cell::new(alloc, Faulty::new(alloc, 8192, false)?, &CONFIG);
@@ -45,7 +61,8 @@ fn first(alloc: Global) -> Result<Cell, AllocError>
         file: 0,
         region: 0,
     };
-    cell.assign(key, 8192);
+    let length = table.length(0);
+    cell.assign(key, region_len(length, 0, 8192));
     Ok(cell)
 }
 
@@ -61,7 +78,7 @@ fn claim(cell: &mut Cell) -> Result<Claim, AllocError>
     Ok(claim)
 }
 
-fn store(cell: &mut Cell, piece: &Piece<Untold>) -> Result<(), FrameFault>
+fn store(cell: &mut Cell, piece: &Piece<SampleArchive>) -> Result<(), FrameFault>
     requires cell { IsAt claimed cell.old.metadata }
     requires piece { IsPieceAt 2 0 0 150 piece.now }
     ensures { OnOk result (IsAt begun cell.new.metadata) }
@@ -146,14 +163,15 @@ fn goes_on(rt: &impl Abort, cell: &mut Cell) -> Result<(), AllocError>
 
 #[test]
 fn a_cell_step_by_step(rt: HostRuntime) -> Result<(), Fail> {
-    let mut cell = first(rt.alloc())?;
+    let alloc = rt.alloc();
+    let mut source = sample_source(alloc, Vec::new(alloc))?;
+    let table = counted(&rt, &mut source).expect(&rt, "the file of 10,000 bytes");
+    let mut cell = first(alloc, &table)?;
     assert_eq!(rt; cell.len(), 8192);
     let claim = claim(&mut cell)?;
     assert!(rt; claim == told(0, 0));
-    match piece(&rt)? {
-        Some(piece) => store(&mut cell, &piece)?,
-        None => assert!(rt; false),
-    }
+    let piece = piece(alloc, &mut source, &table)?;
+    store(&mut cell, &piece)?;
     goes_on(&rt, &mut cell)?;
     Ok(())
 }

@@ -3,33 +3,24 @@
 ghost use Rattle.region_ranges.specs.Keys.{IsConfig};
 
 use crate::samples::{ONE, Stand, TWO, sample_source};
-use crate::steps::{Part, Step};
+use crate::steps::Step;
 use cache_door::{Entered, Glance, Taken};
 use region_ranges::{ByteRange, Config};
 use std::alloc::AllocError;
 use std::process::Abort;
 
-fn part(start: u64, end: u64) -> Part {
-    Part {
-        start,
-        end,
-        length: 10_000,
-    }
+fn part(start: u64, end: u64) -> ByteRange {
+    ByteRange { start, end }
 }
 
-const FIRST: Part = Part {
-    start: 0,
-    end: 4,
-    length: 10_000,
-};
+const FIRST: ByteRange = ByteRange { start: 0, end: 4 };
 
-const SECOND: Part = Part {
+const SECOND: ByteRange = ByteRange {
     start: 4096,
     end: 4100,
-    length: 10_000,
 };
 
-fn enter(actor: u32, part: Part, answer: Entered) -> Step {
+fn enter(actor: u32, part: ByteRange, answer: Entered) -> Step {
     Step::Enter {
         actor,
         mount: 0,
@@ -38,7 +29,7 @@ fn enter(actor: u32, part: Part, answer: Entered) -> Step {
     }
 }
 
-fn store(actor: u32, part: Part, count: u32, answer: bool) -> Step {
+fn store(actor: u32, part: ByteRange, count: u32, answer: bool) -> Step {
     Step::Store {
         actor,
         part,
@@ -76,7 +67,7 @@ fn take(actor: u32, first: u64, answer: Taken) -> Step {
     }
 }
 
-fn look(part: Part, answer: Glance) -> Step {
+fn look(part: ByteRange, answer: Glance) -> Step {
     Step::Glance {
         region: 0,
         part,
@@ -102,7 +93,7 @@ fn first_other(
     requires { IsConfig config.now }
 {
     let alloc = rt.alloc();
-    let source = sample_source(rt, alloc, Vec::new(alloc))?;
+    let source = sample_source(alloc, Vec::new(alloc))?;
     let mut stand = Stand::new(rt, alloc, source, config, "mount-y", failing)?;
     stand.first_other(alloc, steps)
 }
@@ -247,23 +238,5 @@ fn mounts_that_are_gone(rt: HostRuntime) -> Result<(), AllocError> {
         },
     ];
     assert_eq!(rt; first_other(&rt, &ONE, true, &steps)?, None);
-    Ok(())
-}
-
-// A mapped key that is wanted with another length finds no room.
-#[test]
-fn a_key_of_another_length(rt: HostRuntime) -> Result<(), AllocError> {
-    let short = Part {
-        length: 100,
-        ..FIRST
-    };
-    let steps = [
-        enter(0, FIRST, held(0, 0, 4096)),
-        fail(0),
-        leave(0),
-        enter(0, short, Entered::NoRoom),
-        enter(0, FIRST, held(0, 0, 4096)),
-    ];
-    assert_eq!(rt; first_other(&rt, &ONE, false, &steps)?, None);
     Ok(())
 }

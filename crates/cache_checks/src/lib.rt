@@ -2,6 +2,8 @@
 #![tactic(auto)]
 
 #[cfg(test)]
+mod another_length;
+#[cfg(test)]
 mod cells;
 #[cfg(test)]
 mod doors;

@@ -6,14 +6,15 @@ ghost use Rattle.cache_door.specs.Doors.{nothing};
 ghost use Rattle.region_ranges.specs.Keys.{IsConfig};
 
 use crate::samples::{FOUR, ONE, Stand, sample_source};
-use crate::steps::{Part, Step};
+use crate::steps::Step;
 use blob_parts::PartTable;
 use byte_text::{Blobs, Name, Text};
 use cache_door::{CacheDoor, Entered};
-use cache_outside::{MemSource, SourceCall, Untold, manifests_in};
+use cache_outside::{Archive, MemSource, SourceCall, Untold, manifests_in};
 use cache_reader::{Reader, Report};
 use directory_input::{BytesError, FileBytes};
 use region_ranges::{ByteRange, Config};
+use sample_archive::SampleArchive;
 use std::alloc::{AllocError, Global};
 use std::process::Abort;
 use std::test::Fail;
@@ -95,15 +96,15 @@ fn across(answer: Option<Report>) -> Case {
 }
 
 /// Makes the read, and compares the bytes that it answers. What it reports, or None for a fault.
-fn read_next<'a, D: CacheDoor<Untold>>(
+fn read_next<'a, A: Archive, D: CacheDoor<A>>(
     rt: &impl Abort,
-    reader: &mut Reader<'a, Untold, D, MemSource<Untold>>,
+    reader: &mut Reader<'a, A, D, MemSource<A>>,
     case: &Case,
 ) -> Option<Report>
-    requires file { 0 < (⟦<Reader<'a, Untold, D, MemSource<Untold>> as FileBytes>⟧.view reader.old).count }
+    requires file { 0 < (⟦<Reader<'a, A, D, MemSource<A>> as FileBytes>⟧.view reader.old).count }
     ensures goes { let read = one_read 0 case.now.at (length case.now.bytes.now) in
-        ⟦<Reader<'a, Untold, D, MemSource<Untold>> as FileBytes>⟧.goes_by read reader.old reader.new }
-    ensures count { let view = ⟦<Reader<'a, Untold, D, MemSource<Untold>> as FileBytes>⟧.view in
+        ⟦<Reader<'a, A, D, MemSource<A>> as FileBytes>⟧.goes_by read reader.old reader.new }
+    ensures count { let view = ⟦<Reader<'a, A, D, MemSource<A>> as FileBytes>⟧.view in
         (view reader.new).count ≡ (view reader.old).count }
 {
     let wanted = case.bytes;
@@ -125,11 +126,11 @@ fn read_next<'a, D: CacheDoor<Untold>>(
 }
 
 /// Makes the read through a reader of its own, whose sum is that of the one read.
-fn read<D: CacheDoor<Untold>>(
+fn read<A: Archive, D: CacheDoor<A>>(
     rt: &(impl Abort + AllocGlobal),
     door: &mut D,
-    source: &mut MemSource<Untold>,
-    table: &PartTable<Untold>,
+    source: &mut MemSource<A>,
+    table: &PartTable<A>,
     config: &Config,
     case: &Case,
 ) -> bool
@@ -146,11 +147,11 @@ fn read<D: CacheDoor<Untold>>(
 }
 
 /// The place of the first read that answers otherwise, or None.
-fn first_other<D: CacheDoor<Untold>>(
+fn first_other<A: Archive, D: CacheDoor<A>>(
     rt: &(impl Abort + AllocGlobal),
     door: &mut D,
-    source: &mut MemSource<Untold>,
-    table: &PartTable<Untold>,
+    source: &mut MemSource<A>,
+    table: &PartTable<A>,
     config: &Config,
     cases: &[Case],
 ) -> Option<usize>
@@ -168,9 +169,9 @@ fn first_other<D: CacheDoor<Untold>>(
 }
 
 /// Makes the reads as this actor, each through a reader of its own.
-fn read_each(
+fn read_each<A: Archive + Drop>(
     rt: &(impl Abort + AllocGlobal),
-    stand: Stand,
+    stand: Stand<A>,
     actor: u32,
     cases: &[Case],
     left: &Left,
@@ -204,9 +205,9 @@ fn read_each(
 }
 
 /// Makes the reads as the first actor, all through one reader. Behind each its sums are these.
-fn read_by_one(
+fn read_by_one<A: Archive + Drop>(
     rt: &(impl Abort + AllocGlobal),
-    stand: Stand,
+    stand: Stand<A>,
     cases: &[(Case, Report)],
     promotions: u64,
 ) -> Result<(), Fail> {
@@ -237,13 +238,13 @@ fn stand(
     config: &Config,
     manifest: &str,
     fails: &[(SourceCall, u64)],
-) -> Result<Stand, AllocError>
+) -> Result<Stand<SampleArchive>, AllocError>
     requires { IsConfig config.now }
 {
     let alloc = rt.alloc();
     let mut listed = Vec::new(alloc);
     listed.extend_from_slice(fails)?;
-    let source = sample_source(rt, alloc, listed)?;
+    let source = sample_source(alloc, listed)?;
     Stand::new(rt, alloc, source, config, manifest, false)
 }
 
@@ -312,11 +313,7 @@ fn a_reader_without_room(rt: HostRuntime) -> Result<(), Fail> {
     let enters = Step::Enter {
         actor: 0,
         mount: 0,
-        part: Part {
-            start: 0,
-            end: 4,
-            length: 10_000,
-        },
+        part: ByteRange { start: 0, end: 4 },
         answer: Entered::Held {
             region: 0,
             gap: Some(ByteRange {

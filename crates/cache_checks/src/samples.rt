@@ -1,4 +1,4 @@
-//! The sample archive as one that does not tell, and a source, a table and a core of two actors together.
+//! A source of the sample archive; and a source, a table and a core of two actors together, over any archive.
 
 ghost use Rattle.std.specs.Prelude.{◌≡◌, ◌<◌, IfOk, length};
 ghost use Rattle.std.specs.List.{All};
@@ -8,9 +8,9 @@ ghost use Rattle.cache_checks.specs.Checks.{faulty_view};
 use crate::faulty::Faulty;
 use blob_parts::{PartTable, load, resolve};
 use cache_door::Core;
-use cache_outside::{MemSource, SourceCall, Untold, manifests_in};
+use cache_outside::{Archive, MemSource, SourceCall};
 use region_ranges::Config;
-use sample_archive::sample_blobs;
+use sample_archive::{SampleArchive, sample_blobs};
 use std::alloc::{AllocError, Global};
 use std::process::Abort;
 
@@ -28,34 +28,32 @@ pub const FOUR: Config = Config { regions: 4, ..ONE };
 
 /// A source of the sample archive that fails at the calls listed. The first read is that of a manifest.
 pub fn sample_source(
-    rt: &impl Abort,
     alloc: Global,
     fails: Vec<(SourceCall, u64)>,
-) -> Result<MemSource<Untold>, AllocError> {
+) -> Result<MemSource<SampleArchive>, AllocError> {
     let blobs = sample_blobs(alloc)?;
-    assert!(rt; manifests_in(&blobs) <= 65_536);
-    Ok(MemSource::<Untold>::new(alloc, blobs, 65_536, fails))
+    Ok(MemSource::<SampleArchive>::new(alloc, blobs, 65_536, fails))
 }
 
 /// The table of a manifest that the source has.
-pub fn table_of(
+pub fn table_of<A: Archive + Drop>(
     rt: &impl Abort,
     alloc: Global,
-    source: &mut MemSource<Untold>,
+    source: &mut MemSource<A>,
     manifest: &str,
-) -> PartTable<Untold> {
-    let loaded = load::<Untold, MemSource<Untold>>(alloc, source, manifest).ok();
+) -> PartTable<A> {
+    let loaded = load::<A, MemSource<A>>(alloc, source, manifest).ok();
     let (number, manifest) = loaded.expect(rt, "a manifest");
-    let resolved = resolve::<Untold, MemSource<Untold>>(alloc, source, number, &manifest).ok();
+    let resolved = resolve::<A, MemSource<A>>(alloc, source, number, &manifest).ok();
     resolved.expect(rt, "a table")
 }
 
 /// A source, the table of a manifest with a file, and a core of two actors.
 #[derive(Drop)]
-pub struct Stand {
-    pub source: MemSource<Untold>,
-    pub table: PartTable<Untold>,
-    pub core: Core<Untold, Faulty>,
+pub struct Stand<A: Archive + Drop> {
+    pub source: MemSource<A>,
+    pub table: PartTable<A>,
+    pub core: Core<A, Faulty>,
     pub config: Config,
     ghost own: { core.config ≡ config },
     ghost actors: { length core.holds ≡ 2 },
@@ -75,16 +73,16 @@ fn frames(alloc: Global, config: &Config, failing: bool) -> Result<Vec<Faulty>, 
     Ok(frames)
 }
 
-impl Stand {
+impl<A: Archive + Drop> Stand<A> {
     /// For a manifest with a file. Each frame fails at its first put and its first get where `failing`.
     pub fn new(
         rt: &impl Abort,
         alloc: Global,
-        mut source: MemSource<Untold>,
+        mut source: MemSource<A>,
         config: &Config,
         manifest: &str,
         failing: bool,
-    ) -> Result<Stand, AllocError>
+    ) -> Result<Stand<A>, AllocError>
         requires { IsConfig config.now }
     {
         let table = table_of(rt, alloc, &mut source, manifest);

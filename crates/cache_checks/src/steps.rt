@@ -1,23 +1,17 @@
 //! Calls on the doors of a core as values, each with what it answers.
 
-ghost use Rattle.std.specs.Prelude.{◌≡◌, ◌+◌, ◌*◌, ◌<◌, ◌≤◌, IfSome};
+ghost use Rattle.std.specs.Prelude.{◌<◌, IfSome, IsTrue, length};
 ghost use Rattle.region_ranges.specs.Keys.{IsConfig};
-ghost use Rattle.cache_door.specs.Doors.{IsWant};
+ghost use Rattle.blob_parts.specs.Content.{content};
+ghost use Rattle.cache_door.specs.Doors.{IsWant, HasLength};
 ghost use Rattle.cache_checks.specs.Checks.{IsOfPart};
 
 use crate::samples::Stand;
-use blob_parts::fetch;
+use blob_parts::{PartTable, fetch};
 use cache_door::{CacheDoor, Entered, Glance, Taken, Want};
+use cache_outside::Archive;
 use region_ranges::{ByteRange, Config, RegionKey, region_len, region_of};
 use std::alloc::{AllocError, Global};
-
-/// Bytes of a file of so many bytes.
-#[derive(Clone, Copy)]
-pub struct Part {
-    pub start: u64,
-    pub end: u64,
-    pub length: u64,
-}
 
 /// A call on a door of one of two actors, with its answer.
 #[derive(Clone, Copy)]
@@ -25,13 +19,13 @@ pub enum Step {
     Enter {
         actor: u32,
         mount: u32,
-        part: Part,
+        part: ByteRange,
         answer: Entered,
     },
     /// The next bytes of the actor's gap, which is one of the region of the part, and whether they are stored.
     Store {
         actor: u32,
-        part: Part,
+        part: ByteRange,
         count: u32,
         answer: bool,
     },
@@ -49,7 +43,7 @@ pub enum Step {
     },
     Glance {
         region: u32,
-        part: Part,
+        part: ByteRange,
         answer: Glance,
     },
     Decay {
@@ -80,22 +74,25 @@ fn are_counted(bytes: &[u8], first: u64) -> bool {
     true
 }
 
-// What an entry wants for a part of a manifest's first file, where it may be wanted.
-fn want_of(manifest: u32, config: &Config, part: Part) -> Option<Want>
+// What an entry wants for a part of the table's first file, where it may be wanted.
+fn want_of<A: Archive>(table: &PartTable<A>, config: &Config, part: ByteRange) -> Option<Want>
     requires config { IsConfig config.now }
-    requires manifest { manifest < 65536 }
-    ensures key { IfSome result (IsOfPart manifest config.now.region part.start) }
+    requires file { 0 < length table.now.files }
+    ensures key { IfSome result (IsOfPart table.now.number config.now.region part.start) }
     ensures wanted { IfSome result (IsWant config.now) }
+    ensures whole { IsTrue A.tells → IfSome result (HasLength (content A.blobs) config.now) }
 {
     let range = config.range as u64;
-    if part.start >= part.end || part.end > part.length || part.length > 1_099_511_623_680 {
+    let length = table.length(0);
+    if part.start >= part.end || part.end > length {
         return None;
     }
     if part.start / range != (part.end - 1) / range {
         return None;
     }
+    let manifest = table.number();
     let region = region_of(part.start, config.region);
-    let len = region_len(part.length, region, config.region);
+    let len = region_len(length, region, config.region);
     let base = region * config.region as u64;
     Some(Want {
         key: RegionKey {
@@ -111,9 +108,14 @@ fn want_of(manifest: u32, config: &Config, part: Part) -> Option<Want>
     })
 }
 
-impl Stand {
-    fn enter(&mut self, actor: u32, mount: u32, part: Part) -> Result<Option<Entered>, AllocError> {
-        let Some(want) = want_of(self.table.number(), &self.config, part) else {
+impl<A: Archive + Drop> Stand<A> {
+    fn enter(
+        &mut self,
+        actor: u32,
+        mount: u32,
+        part: ByteRange,
+    ) -> Result<Option<Entered>, AllocError> {
+        let Some(want) = want_of(&self.table, &self.config, part) else {
             return Ok(None);
         };
         if actor > 1 || mount >= 4096 || self.core.hold_of(actor).is_some() {
@@ -123,8 +125,8 @@ impl Stand {
         Ok(Some(entered))
     }
 
-    fn store(&mut self, alloc: Global, actor: u32, part: Part, count: u32) -> Option<bool> {
-        let want = want_of(self.table.number(), &self.config, part)?;
+    fn store(&mut self, alloc: Global, actor: u32, part: ByteRange, count: u32) -> Option<bool> {
+        let want = want_of(&self.table, &self.config, part)?;
         if actor > 1 || count == 0 || count > 65_536 {
             return None;
         }
@@ -195,9 +197,9 @@ impl Stand {
         &mut self,
         alloc: Global,
         region: u32,
-        part: Part,
+        part: ByteRange,
     ) -> Result<Option<(Glance, bool)>, AllocError> {
-        let Some(want) = want_of(self.table.number(), &self.config, part) else {
+        let Some(want) = want_of(&self.table, &self.config, part) else {
             return Ok(None);
         };
         if region >= self.config.regions || self.core.hold_of(0).is_some() {
