@@ -4,3 +4,7 @@ pub mod Keeps
 pub mod Turned
 pub mod Settles
 pub mod Opens
+pub mod Finds
+pub mod Chosen
+pub mod Doors
+pub mod Entered

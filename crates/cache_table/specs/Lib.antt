@@ -5,3 +5,5 @@ pub mod Calls
 pub mod Plays
 pub mod Views
 pub mod Opened
+pub mod Entries
+pub mod Doors

@@ -4,6 +4,10 @@
 
 mod cache;
 mod calls;
+mod choice;
+mod door;
+mod enter_call;
+mod entry;
 mod glance;
 mod holder;
 mod home;
@@ -20,6 +24,7 @@ mod turns;
 mod view;
 
 pub use cache::{SharedCache, cache_crosses};
+pub use door::TableDoor;
 pub use home::{Home, home_crosses};
 pub use key::Key;
 pub use pass::{Pass, pass_crosses};
