@@ -1,0 +1,10 @@
+pub mod Sums
+pub mod Owns
+pub mod Keeps
+pub mod Turned
+pub mod Settles
+pub mod Opens
+pub mod Finds
+pub mod Chosen
+pub mod Doors
+pub mod Entered

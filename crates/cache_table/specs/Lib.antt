@@ -1,0 +1,9 @@
+pub mod Abouts
+pub mod Keys
+pub mod Rule
+pub mod Calls
+pub mod Plays
+pub mod Views
+pub mod Opened
+pub mod Entries
+pub mod Doors
