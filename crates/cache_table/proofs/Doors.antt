@@ -3,7 +3,7 @@ use Rattle.std.proofs.Common.{arith, ◌≡◌, ◌≢◌, ◌<◌, ◌≤◌, �
 use Rattle.std.specs.Prelude.{◌==◌, IfOk, OnOk, OnErr, IsErr, IsTrue, if◌then◌else◌}
 use Rattle.std.proofs.lemmas.Bool.{cases_Bool}
 use Rattle.freq_lists.proofs.Counts.{same_is}
-use Rattle.cache_outside.specs.Causes.{Rose}
+use Rattle.byte_text.specs.Counts.{Rose}
 use Rattle.cache_door.specs.Machine.{State}
 use Rattle.cache_door.specs.declared.answers.Entered.{Entered}
 use Rattle.cache_door.specs.declared.answers.Entered.TheVariants.{Gone}
