@@ -1,0 +1,5 @@
+pub mod Behind
+pub mod Rosters
+pub mod Regions
+pub mod Carried
+pub mod Blocks
