@@ -1,8 +1,9 @@
 -- What the lines of a block make of a run with one worker.
-use Rattle.std.specs.Prelude.{ℕ, ◌≡◌, ◌≤◌, ◌||◌, ◌⊎◌, List, [], ◌∷◌, length, Bool, true, false, IsTrue, Option, Some, None, Ok, if◌then◌else◌}
+use Rattle.std.specs.Prelude.{ℕ, ◌≡◌, ◌≤◌, ◌||◌, ◌⊎◌, List, [], ◌∷◌, ◌++◌, length, Bool, true, false, IsTrue, Option, Some, None, Ok, option_map, if◌then◌else◌}
 use Rattle.std.specs.Str.{bytes_eq}
 use Rattle.cache_outside.specs.Listing.{Listing}
 use Rattle.cache_outside.specs.Sources.{SourceView}
+use Rattle.cache_outside.specs.Sinks.{SinkView, behind}
 use Rattle.index_mounts.specs.Rosters.{MountView, RosterView, mounted}
 use Rattle.cache_policy.specs.Policy.{PolicyView, mapped_len}
 use Rattle.cache_door.specs.Machine.{is_gone}
@@ -16,9 +17,11 @@ use Rattle.mount_script.specs.declared.reply.Reply.{Reply}
 use Rattle.mount_script.specs.declared.reply.Reply.TheVariants as reply
 use Rattle.mount_script.specs.Scripts.{script}
 use Rattle.shard_replies.specs.ExpectedReplies.{used_name}
-use Rattle.script_run.specs.Mounting.{mounts_of, after_block}
-use Rattle.script_run.specs.Allowed.{RunSetting, AllowedBlock, AllowedFrom, faults_of, Bears, unmounted_in}
-use Rattle.script_run.specs.Counters.{Counters}
+use Rattle.script_run.specs.Mounting.{mounts_of, after_block, after_blocks, nothing_mounted}
+use Rattle.script_run.specs.Allowed.{RunSetting, AllowedBlock, AllowedFrom, AllowedRun, faults_of, run_faults, Bears, unmounted_in, is_mark, is_memory, some_reply}
+use Rattle.script_run.specs.Texts.{run_text}
+use Rattle.script_run.specs.Clocks.{times_asked}
+use Rattle.script_run.specs.Counters.{Counters, no_counts, numbers_of, StatsRise, StatsBelow, LastStats, all_replies}
 use Rattle.script_run.specs.Lines.{HasKind, is_shared}
 use Rattle.script_run.specs.declared.sums.Sums.{Sums}
 
@@ -132,3 +135,35 @@ pub record BlockRan (s : RunSetting) (r q : RosterView) (block : List Line) (rep
   pub core : Later v w
   pub idle : IsIdle w
   pub unmounted : UnmountedIn q [] w
+
+-- ---- a run so far
+
+-- The `stats` replies so far rise up to what is counted now, are not above it, and the last reply, if it is one, says just this.
+pub record StatsFit (policy : PolicyView) (sums : Sums) (replies : List Reply) : Type 0 where
+  pub on : (more : List Reply) → StatsRise (counters_of policy sums) more → StatsRise no_counts (replies ++ more)
+  pub below : StatsBelow (numbers_of policy) replies
+  pub last : LastStats (numbers_of policy) replies
+
+-- Some first blocks of a script ran: a source went from a to b, the coming times of a clock from t to u, and a core from v to w; these are
+-- the roster and the sums now.
+pub record RunSoFar (s : RunSetting) (done : List (List Line)) (replies : List (List Reply)) (r : RosterView) (sums : Sums) (a b : SourceView) (t u : Option (List ℕ)) (v w : CoreView) : Type 0 where
+  pub many : length replies ≡ length done
+  pub allowed : AllowedRun s nothing_mounted done replies
+  pub mounts : IsTrue s.tells → mounts_of r ≡ after_blocks s.blobs done replies nothing_mounted
+  pub bears : Bears (run_faults 1 0 replies) a.faults b.faults
+  pub faults : a.faults ≤ b.faults
+  pub identity : b.identity ≡ a.identity
+  pub clock : u ≡ option_map (times_asked (length done)) t
+  pub core : Later v w
+  pub idle : IsIdle w
+  pub unmounted : UnmountedIn r [] w
+  pub stats : StatsFit w.policy sums (all_replies replies)
+
+-- and their replies are written
+pub record WrittenSoFar (s : RunSetting) (done : List (List Line)) (r : RosterView) (sums : Sums) (marked lacking : Bool) (a b : SourceView) (t u : Option (List ℕ)) (v w : CoreView) (x y : SinkView) : Type 0 where
+  pub replies : List (List Reply)
+  pub ran : RunSoFar s done replies r sums a b t u v w
+  pub written : y.written ≡ behind x.written (run_text done replies)
+  pub faults : x.faults ≤ y.faults
+  pub marks : marked ≡ some_reply is_mark replies
+  pub lacks : lacking ≡ some_reply is_memory replies

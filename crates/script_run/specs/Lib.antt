@@ -1,6 +1,7 @@
 pub mod Mounting
 pub mod Allowed
 pub mod Texts
+pub mod Clocks
 pub mod Counters
 pub mod Lines
 pub mod MountLines

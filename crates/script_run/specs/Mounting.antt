@@ -32,6 +32,11 @@ abbrev pub after_block : Listing → List Line → List Reply → Mounts → Mou
 after_block blobs (l ∷ ls) (x ∷ xs) m = after_block blobs ls xs (after_line blobs l.command x m)
 after_block blobs _ _ m = m
 
+-- what is mounted behind these blocks
+abbrev pub after_blocks : Listing → List (List Line) → List (List Reply) → Mounts → Mounts
+after_blocks blobs (b ∷ bs) (xs ∷ xss) m = after_blocks blobs bs xss (after_block blobs b xs m)
+after_blocks blobs bs xss m = m
+
 -- what is mounted in a roster
 abbrev pub mounts_of : RosterView → Mounts
 mounts_of r = record { number_of = λ name. option_map (λ (m : MountView). m.number) (mounted name r); made = r.made }

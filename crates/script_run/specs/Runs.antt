@@ -1,9 +1,10 @@
 -- How a run may end, and what holds of it then.
-use Rattle.std.specs.Prelude.{ℕ, zero, suc, ◌≡◌, List, [], ◌++◌, length, take, Bool, false, IsTrue, Option, option_map}
+use Rattle.std.specs.Prelude.{ℕ, ◌≡◌, List, [], ◌++◌, length, take, Bool, false, IsTrue, Option, option_map}
 use Rattle.cache_outside.specs.Causes.{Rose}
 use Rattle.cache_outside.specs.Sinks.{SinkView, behind}
 use Rattle.cache_outside.specs.Sources.{SourceView}
-use Rattle.cache_outside.specs.Clocks.{ClockView, times_after}
+use Rattle.cache_outside.specs.Clocks.{ClockView}
+use Rattle.script_run.specs.Clocks.{times_asked}
 use Rattle.mount_script.specs.declared.command.Line.{Line}
 use Rattle.mount_script.specs.declared.reply.Reply.{Reply}
 use Rattle.script_run.specs.Mounting.{nothing_mounted}
@@ -33,11 +34,6 @@ EndsBy blocks rest replies before now (Done marked) =
     × (marked ≡ some_reply is_mark replies) × (some_reply is_memory replies ≡ false)
 EndsBy blocks rest replies before now SinkFault = IsFront before.written now.written (run_text blocks replies) × Rose before.faults now.faults
 EndsBy blocks rest replies before now NoMemory = IsFront before.written now.written (run_text blocks replies)
-
--- the coming times of a clock that was asked n times
-abbrev pub times_asked : ℕ → List ℕ → List ℕ
-times_asked zero times = times
-times_asked (suc n) times = times_asked n (times_after times)
 
 abbrev pub IsDone : Ended → Type 0
 IsDone (Done marked) = Unit {0}

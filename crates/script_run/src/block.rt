@@ -3,6 +3,7 @@ ghost use Rattle.std.specs.Prelude.{◌≡◌, ◌<◌, ◌≤◌, ◌+◌, ◌+
 ghost use Rattle.index_mounts.specs.Rosters.{mounted};
 ghost use Rattle.region_ranges.specs.Keys.{IsConfig};
 ghost use Rattle.cache_door.specs.Cores.{all_tell};
+ghost use Rattle.script_run.specs.Lines.{is_shared};
 ghost use Rattle.script_run.specs.Blocks.{alone, IsIdle, IsBlock, AllShared, UnmountedIn, LinesRan, BlockRan, BlockStats, NoStats, Forgotten, forgets, SumsLater};
 
 use crate::core_lines::{core_line, core_mount};
@@ -14,6 +15,13 @@ use index_mounts::Roster;
 use mount_script::{Command, Line, Reply};
 use region_ranges::Config;
 use std::alloc::Global;
+
+/// Whether a line with this command may stand in a block with others.
+fn is_shared(command: &Command) -> bool
+    ensures { result ≡ is_shared command.now }
+{
+    !matches!(command, Command::Mount { .. } | Command::Stats)
+}
 
 /// Puts a reply behind the others, where there is room.
 fn put(replies: &mut Vec<Reply>, reply: Reply)
@@ -137,7 +145,14 @@ pub(crate) fn run_block<A: Archive + Drop, F: Frame + Drop, S: BlobSource<A>>(
     ensures stats { BlockStats core.old core.new sums.old sums.new replies.new.items }
     ensures sums { SumsLater sums.old sums.new }
 {
-    match &block[0].command {
+    let first = &block[0].command;
+    if is_shared(first) {
+        shared_block(
+            alloc, core, source, roster, config, block, now, sums, replies,
+        );
+        return;
+    }
+    match first {
         Command::Mount { name, manifest } => {
             let reply = core_mount(alloc, core, source, roster, name, manifest);
             put(replies, reply);
@@ -146,6 +161,6 @@ pub(crate) fn run_block<A: Archive + Drop, F: Frame + Drop, S: BlobSource<A>>(
             let reply = stats_reply(core, sums);
             put(replies, reply);
         }
-        _ => shared_block(alloc, core, source, roster, config, block, now, sums, replies),
+        _ => unreachable!(),
     }
 }
