@@ -181,7 +181,6 @@ gone_by r e now (Unmount name) (Some m) x report y z n shared is does gone = by_
     by_number true k = inr (record { name = name; mount = m; command = refl; there = is; number = (Decides-eqb n m.mount).0 k })
     by_number false k = inl (ap (λ (b : Bool). cond b true (y.door.unmounted n)) (sym k) ∙ sym (does.mounts n) ∙ gone)
 
-
 -- ---- the step
 
 module _ (tells : Bool) (blobs : Listing) (r : RosterView) (kept : IsRoster tells blobs r) (done : List Line) (l : Line) (v w : CoreView) (before : UnmountedIn r done v)
@@ -245,7 +244,7 @@ pub line_ran : (tells frames : Bool) (blobs : Listing) (regions : ℕ) (r : Rost
     → LinesRan (alone (tells && frames) blobs regions) r block (done ++ l ∷ []) (xs ++ x ∷ []) a c u w
 line_ran tells frames blobs regions r kept block done xs a b c u v w config now l x report told shared h answer mark kind later idle source does =
     let by : (n : ℕ) → is_gone (state_of w) n ≡ true → (is_gone (state_of v) n ≡ true) ⊎ Unmounts r l.command n =
-        λ n gone. gone_by r (cached tells blobs config) now l.command (mounted (used_name l.command) r) x report (seen b v) (seen c w) n shared refl does gone in
+    λ n gone. gone_by r (cached tells blobs config) now l.command (mounted (used_name l.command) r) x report (seen b v) (seen c w) n shared refl does gone in
     let same : all_tell v.cells ≡ frames = h.core.tell ∙ told in
     let own : IsAnswer (tells && frames) (expected_reply blobs (mounts_of r) l.command) x = subst (λ (f : Bool). IsAnswer (tells && f) (expected_reply blobs (mounts_of r) l.command) x) same answer in
     let P : Reply → Type 0 = IsMarked l.command (mounted (used_name l.command) r) (seen b v) (seen c w) in
@@ -439,7 +438,7 @@ shared_ran s r q block xs a b v w shared h f =
       allowed = h.allowed;
       mounts = λ t. same_mounts (mounts_of q) (after_block s.blobs block xs (mounts_of r))
           (λ other. ap (λ (o : Option MountView). option_map (λ (m : MountView). m.number) o) (f.mounts other) ∙ number_cond (forgets_any block xs other) (mounted other r)
-              ∙ sym (block_makes s.blobs block xs (mounts_of r) other shared many))
+          ∙ sym (block_makes s.blobs block xs (mounts_of r) other shared many))
           (f.made ∙ sym (block_made s.blobs block xs (mounts_of r) shared many));
       bears = h.bears;
       faults = h.faults;

@@ -24,7 +24,7 @@ use Rattle.mount_script.specs.declared.reply.Reply.{Reply}
 use Rattle.mount_script.specs.declared.reply.Reply.TheVariants as reply
 use Rattle.shard_replies.specs.ExpectedReplies.{Mounts, expected_reply}
 use Rattle.script_run.specs.Mounting.{mounts_of, after_block, after_blocks, nothing_mounted}
-use Rattle.script_run.specs.Allowed.{RunSetting, Allowed, AllowedFrom, AllowedBlock, AllowedRun, IsPlain, faults_of, run_faults, Bears, is_mark, is_memory, some_reply}
+use Rattle.script_run.specs.Allowed.{RunSetting, Allowed, AllowedFrom, AllowedBlock, AllowedRun, IsPlain, near_lines, faults_of, run_faults, Bears, is_mark, is_memory, some_reply}
 use Rattle.script_run.specs.Texts.{block_text, run_text}
 use Rattle.script_run.specs.Clocks.{times_asked}
 use Rattle.script_run.specs.Counters.{all_replies, numbers_of}
@@ -60,7 +60,7 @@ from_with : (s : RunSetting) (m n : Mounts) (block before ls : List Line) (xs : 
 from_with s m n block before [] [] e h = tt {0}
 from_with s m n block before [] (x ∷ xs) e h = absurd h
 from_with s m n block before (l ∷ ls) [] e h = absurd h
-from_with s m n block before (l ∷ ls) (x ∷ xs) e h = (allowed_with s m n _ l.command x e h.0, from_with s m n block (before ++ l ∷ []) ls xs e h.1)
+from_with s m n block before (l ∷ ls) (x ∷ xs) e h = (allowed_with s m n (near_lines s block before) l.command x e h.0, from_with s m n block (before ++ l ∷ []) ls xs e h.1)
 
 some_replies : (s : RunSetting) (m : Mounts) (block : List Line) (xs : List Reply) → IsBlock block → AllowedBlock s m block xs → xs ≡ [] → ⊥
 some_replies s m [] xs some h e = some
@@ -192,11 +192,14 @@ started s r sums a t v x e f new = record {
     idle : IsIdle v
     idle = ap (λ (hs : List (Option Hold)). hold_view (slice_index_or hs 0 None)) new.idle
 
-pub allowed_length : (s : RunSetting) (m : Mounts) (block before ls : List Line) (xs : List Reply) → AllowedFrom s m block before ls xs → length xs ≡ length ls
+allowed_length : (s : RunSetting) (m : Mounts) (block before ls : List Line) (xs : List Reply) → AllowedFrom s m block before ls xs → length xs ≡ length ls
 allowed_length s m block before [] [] h = refl
 allowed_length s m block before [] (x ∷ xs) h = absurd h
 allowed_length s m block before (l ∷ ls) [] h = absurd h
 allowed_length s m block before (l ∷ ls) (x ∷ xs) h = ap suc (allowed_length s m block (before ++ l ∷ []) ls xs h.1)
+
+pub block_length : (s : RunSetting) (r q : RosterView) (block : List Line) (xs : List Reply) (a b : SourceView) (v w : CoreView) → BlockRan s r q block xs a b v w → length xs ≡ length block
+block_length s r q block xs a b v w h = allowed_length s (mounts_of r) block [] block xs h.allowed
 
 pub front_all : (old now : Option (List ℕ)) (text : List ℕ) → now ≡ behind old text → IsFront old now text
 front_all old now text h = (length text, h ∙ ap (behind old) (sym (take-length text)))

@@ -63,13 +63,7 @@ fn wants_memory(replies: &[Reply]) -> bool
 /// source's count of failures rose; `Gone`, only behind an `unmount` of its name in the same block; or `NoMemory`,
 /// which is free and ends the run by `Ended::NoMemory`, at the script's end. A run ends earlier where memory is wanted
 /// for the replies of a block, or for their text, or where the sink fails; then a front of the text is written.
-pub fn run_alone<
-    A: Archive + Drop,
-    F: Frame + Drop,
-    S: BlobSource<A>,
-    K: Sink,
-    C: Clock,
->(
+pub fn run_alone<A: Archive + Drop, F: Frame + Drop, S: BlobSource<A>, K: Sink, C: Clock>(
     alloc: Global,
     script: &Script,
     core: &mut Core<A, F>,

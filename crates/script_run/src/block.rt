@@ -115,7 +115,9 @@ fn shared_block<A: Archive + Drop, F: Frame + Drop, S: BlobSource<A>>(
     ensures stats { NoStats replies.new.items }
     ensures sums { SumsLater sums.old sums.new }
 {
-    run_lines(alloc, core, source, roster, config, block, now, sums, replies);
+    run_lines(
+        alloc, core, source, roster, config, block, now, sums, replies,
+    );
     forget(roster, block, replies);
 }
 

@@ -18,7 +18,7 @@ pub use answer::Answer;
 pub use cache_reader::Report;
 pub use ended::Ended;
 pub use line::run_line;
-pub use mounting::mount_line;
 pub use mount_script::{Command, Reply};
+pub use mounting::mount_line;
 pub use sums::Sums;
 pub use written::write_all;

@@ -9,7 +9,10 @@ use cache_outside::{Archive, Frame};
 use mount_script::Reply;
 
 /// What the core has counted, and the sums of the run so far. The regions that are free, mapped and leaving are all.
-pub(crate) fn stats_reply<A: Archive + Drop, F: Frame + Drop>(core: &Core<A, F>, sums: &Sums) -> Reply
+pub(crate) fn stats_reply<A: Archive + Drop, F: Frame + Drop>(
+    core: &Core<A, F>,
+    sums: &Sums,
+) -> Reply
     ensures reply { result ≡ stats_of core.now.policy sums.now }
     ensures regions { IsStats core.now.config.regions result }
 {

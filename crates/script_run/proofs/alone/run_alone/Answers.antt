@@ -3,7 +3,7 @@ use Rattle.std.specs.Prelude.{◌||◌}
 use Rattle.std.specs.List.{list_any}
 use Rattle.script_run.specs.Allowed.{is_mark, is_memory}
 use Rattle.script_run.proofs.Scripts.{read_block}
-use Rattle.script_run.proofs.Runs.{started, stopped, finished, written_block, cut_fault, cut_memory, allowed_length}
+use Rattle.script_run.proofs.Runs.{started, stopped, finished, written_block, cut_fault, cut_memory, block_length}
 use Rattle.script_run.proofs.alone.run_alone.Goals as goal
 
 pub loop-i-init : goal.loop-i-init
@@ -14,7 +14,7 @@ run_block-requires-clause-block g c = read_block c.args.script.now c.loop-i.i c.
 
 pub write_block-requires : goal.write_block-requires
 write_block-requires g c =
-    ap length c.deref-in-loop-i-2.ensures.value ∙ allowed_length _ _ c.block-block.result.now _ c.block-block.result.now c.run_block.new.replies.items c.run_block.ensures.ran.allowed
+    ap length c.deref-in-loop-i-2.ensures.value ∙ block_length _ _ _ c.block-block.result.now c.run_block.new.replies.items _ _ _ _ c.run_block.ensures.ran
 
 pub returns-in_default-clause-run : goal.returns-in_default-clause-run
 returns-in_default-clause-run g c =

@@ -17,7 +17,7 @@ loop-line-preserved g c =
     let shared = shared_at ls i l c.requires.shared c.loop-line-test.true c.line-item.is in
     let next : take (i + 1) ls ≡ take i ls ++ l ∷ [] = take_more ls i l c.loop-line-test.true ∙ ap (λ (m : Line). take i ls ++ m ∷ []) (sym c.line-item.is) in
     let ran = line_ran g.A.Archive.tells _ g.A.Archive.blobs _ c.args.roster.now c.lesson.ensures ls (take i ls) c.loop-line.replies.items _ _ _ c.args.core.now c.loop-line.core _ c.args.config.now c.args.now l answer.reply answer.report refl shared
-        c.loop-line.invariant.ran told.reply told.mark told.kind told.later told.idle told.source told.does in
+    c.loop-line.invariant.ran told.reply told.mark told.kind told.later told.idle told.source told.does in
     record {
       ran = ran_as _ _ ls (take i ls ++ l ∷ []) (take (i + 1) ls) _ _ _ _ _ _ next c.put.ensures.items ran;
       sums = search rules;
