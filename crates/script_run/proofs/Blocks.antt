@@ -7,7 +7,7 @@ use Rattle.std.proofs.Math.Path.{fun_ext}
 use Rattle.std.proofs.lemmas.List.{append_assoc, append-nil}
 use Rattle.std.proofs.lemmas.List.Folds.{list_any-append}
 use Rattle.std.proofs.lemmas.Bool.Decides.{Decides-eqb}
-use Rattle.cache_outside.specs.Causes.{Rose}
+use Rattle.byte_text.specs.Counts.{Rose}
 use Rattle.cache_outside.specs.Listing.{Listing, manifest_number}
 use Rattle.cache_outside.specs.Sources.{SourceView}
 use Rattle.region_ranges.specs.declared.keys.Config.{Config}

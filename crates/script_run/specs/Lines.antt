@@ -1,7 +1,7 @@
 -- What a line that is neither `mount` nor `stats` answers, and what it makes of the door and the source.
 use Rattle.std.specs.Prelude.{ℕ, ◌≡◌, ◌⊎◌, List, Bool, true, false, IsTrue, Option, Some, None, Result, Ok, Err, codes}
 use Rattle.region_ranges.specs.declared.keys.Config.{Config}
-use Rattle.cache_outside.specs.Causes.{Rose}
+use Rattle.byte_text.specs.Counts.{Rose}
 use Rattle.cache_outside.specs.Listing.{Listing}
 use Rattle.directory_input.specs.Causes.{HasBytesCause}
 use Rattle.directory_input.specs.Reads as directory
