@@ -1,4 +1,5 @@
-// Passes and workers over a shared cache of one or two regions, over frames in memory and an archive that does not tell.
+// Passes and workers over a shared cache of one or two regions, over frames in memory and an archive that does not
+// tell.
 ghost use Rattle.std.specs.Prelude.{◌≡◌, ◌<◌, ◌≤◌, ◌-◌, IfOk, IfSome, All, length};
 ghost use Rattle.region_ranges.specs.Keys.{IsConfig};
 ghost use Rattle.cache_door.specs.Doors.{IsWant, nothing};
@@ -9,7 +10,7 @@ use byte_text::{Blobs, Name, Text};
 use cache_door::{CacheDoor, Glance, Want};
 use cache_frame::MemFrame;
 use cache_outside::{MemSource, Untold, manifests_in};
-use cache_reader::Reader;
+use cache_reader::{Reader, Report};
 use cache_table::{Pass, SharedCache, TableDoor};
 use directory_input::{BytesError, FileBytes};
 use region_ranges::{ByteRange, Config, RegionKey};
@@ -84,7 +85,8 @@ fn open_two(alloc: Global) -> Result<Opened, AllocError>
     SharedCache::open(alloc, &TWO, frames)
 }
 
-// Reads up to 256 bytes of the file through a reader of its own: whether they are the file's.
+// Reads up to 255 bytes of the file through a reader of its own: the reader's report, or None where they are not the
+// file's.
 fn read<D: CacheDoor<Untold>>(
     alloc: Global,
     door: &mut D,
@@ -93,7 +95,7 @@ fn read<D: CacheDoor<Untold>>(
     config: &Config,
     at: u64,
     count: u8,
-) -> Result<bool, BytesError>
+) -> Result<Option<Report>, BytesError>
     requires free { (D.view door.old).hold ≡ nothing }
     requires setting { (D.view door.old).config ≡ config.now }
     requires limits { IsConfig config.now }
@@ -102,17 +104,21 @@ fn read<D: CacheDoor<Untold>>(
     ensures config { (D.view door.new).config ≡ config.now }
 {
     if table.files() == 0 {
-        return Ok(false);
+        return Ok(None);
     }
     let mut out = [0; 256];
     let out = &mut out[..usize::from(count)];
     let mut reader = Reader::new(alloc, door, source, table, 0, config, 0);
     let length = reader.len(0);
     if length < 256 || at > length - 256 {
-        return Ok(false);
+        return Ok(None);
     }
-    reader.read(0, at, out)?;
-    Ok(are_from(at, out))
+    let report = reader.read(0, at, out)?;
+    Ok(if are_from(at, out) {
+        Some(report)
+    } else {
+        None
+    })
 }
 
 // Whether these are the file's bytes from a place on.
@@ -155,7 +161,8 @@ fn a_look_at_a_region_that_nobody_holds(rt: HostRuntime) -> Result<(), Fail> {
     let (cache, pass) = open_one(alloc)?;
     let mut door = TableDoor::new(&rt, &cache, pass);
     door.live(0);
-    assert!(rt; read(alloc, &mut door, &mut source, &table, &ONE, 0, 4) == Ok(true));
+    let seen = read(alloc, &mut door, &mut source, &table, &ONE, 0, 4);
+    assert!(rt; matches!(seen, Ok(Some(_))));
     let mut pass = door.into_pass();
     let mut out = [0; 4];
     let here = cache.glance_free(&mut pass, 0, &want(0), &mut out);
@@ -165,6 +172,61 @@ fn a_look_at_a_region_that_nobody_holds(rt: HostRuntime) -> Result<(), Fail> {
     assert!(rt; there == Glance::Moved(0));
     assert_eq!(rt; pass.shares(), 64);
     cache.close(pass);
+    Ok(())
+}
+
+// Reads of four bytes, one after the other, through a cache of one region: each fetches a whole region, or nothing
+// where its region is the one that is there.
+fn reads_of_one_region<D: CacheDoor<Untold>>(
+    rt: &impl Abort,
+    alloc: Global,
+    door: &mut D,
+    source: &mut MemSource<Untold>,
+    table: &PartTable<Untold>,
+    config: &Config,
+)
+    requires free { (D.view door.old).hold ≡ nothing }
+    requires setting { (D.view door.old).config ≡ config.now }
+    requires limits { IsConfig config.now }
+    ensures hold { (D.view door.new).hold ≡ nothing }
+    ensures config { (D.view door.new).config ≡ config.now }
+{
+    for (at, fetched) in [
+        (0, 4096),
+        (2, 0),
+        (4094, 4096),
+        (4096, 0),
+        (8192, 1808),
+        (9000, 0),
+        (0, 4096),
+    ] {
+        let seen = read(alloc, door, source, table, config, at, 4);
+        let wanted = Report {
+            hit: 4,
+            fetched,
+            direct: 0,
+        };
+        assert!(rt; seen == Ok(Some(wanted)));
+    }
+}
+
+#[test]
+fn one_pass_reads_and_unmounts(rt: HostRuntime) -> Result<(), Fail> {
+    let alloc = rt.alloc();
+    let mut source = source(&rt, alloc)?;
+    let Some(table) = table(alloc, &mut source) else {
+        assert!(rt; false);
+        return Ok(());
+    };
+    let (cache, pass) = open_one(alloc)?;
+    let mut door = TableDoor::new(&rt, &cache, pass);
+    reads_of_one_region(&rt, alloc, &mut door, &mut source, &table, &ONE);
+    door.unmount(0, 0);
+    let seen = read(alloc, &mut door, &mut source, &table, &ONE, 0, 4);
+    assert!(rt; seen == Err(BytesError::Gone { mount: 0 }));
+    let pass = door.into_pass();
+    assert!(rt; pass.has_unmounted(0) && pass.has_seen_gone(0));
+    assert!(rt; !pass.has_unmounted(1) && !pass.has_seen_gone(4095) && !pass.has_seen_gone(4096));
     Ok(())
 }
 
@@ -257,7 +319,7 @@ fn rounds<D: CacheDoor<Untold>>(
             (drawn >> 20) % 9_745,
             count,
         ) {
-            Ok(true) => good = good.saturating_add(1),
+            Ok(Some(_)) => good = good.saturating_add(1),
             Err(BytesError::Gone { mount: 0 }) => gone = gone.saturating_add(1),
             _ => {}
         }
