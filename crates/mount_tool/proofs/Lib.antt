@@ -1,4 +1,2 @@
-pub mod Behind
-pub mod Counts
 pub mod Allowed
 pub mod Sample
