@@ -1,0 +1,7 @@
+use Rattle.std.proofs.Common.{◌≡◌, take}
+use Rattle.std.specs.List.{list_any}
+use Rattle.script_run.specs.Allowed.{is_mark}
+use Rattle.script_run.proofs.alone.has_mark.Given as goal
+
+abbrev pub invariant-loop-reply : goal.invariant-loop-reply
+invariant-loop-reply l = l.found ≡ list_any is_mark (take l.reply-index l.replies)

@@ -1,0 +1,18 @@
+use Rattle.std.proofs.Common.{◌≡◌, ◌∙◌, ap, sym, refl, rules, false, List, ◌++◌, ◌∷◌, []}
+use Rattle.mount_script.specs.declared.reply.Reply.{Reply}
+use Rattle.mount_script.specs.declared.command.Command.TheVariants.{Mount}
+use Rattle.mount_script.specs.declared.command.Line.{Line}
+use Rattle.script_run.specs.Lines.{is_shared}
+use Rattle.script_run.proofs.Blocks.{block_single, mount_ran}
+use Rattle.script_run.proofs.block.run_block.Goals as goal
+
+pub returns-in-Mount-clause-ran : goal.returns-in-Mount-clause-ran
+returns-in-Mount-clause-ran g c =
+    let command : c.index-block-0.result.command ≡ Mount c.in-Mount.name c.in-Mount.manifest = ap (λ (n : Line). n.command) c.index-block-0.is ∙ c.in-Mount.is in
+    let own : is_shared c.index-block-0.result.command ≡ false = ap is_shared command in
+    let one = block_single c.args.block.now c.index-block-0.result c.requires.block c.index-block-0.is own in
+    let x = c.core_mount-reply.result in
+    let only : c.put.new.replies.items ≡ x ∷ [] = c.put.ensures.items ∙ ap (λ (xs : List Reply). xs ++ x ∷ []) c.requires.none.0 in
+    let told = c.core_mount-reply.ensures in
+    mount_ran g.A.Archive.tells _ g.A.Archive.blobs _ c.args.block.now c.index-block-0.result c.in-Mount.name c.in-Mount.manifest _ _ x _ _ _ _ _ one command only
+    c.requires.idle c.requires.unmounted told.reply told.kind told.roster told.later told.source told.does

@@ -1,0 +1,13 @@
+use Rattle.std.proofs.Common.{◌∙◌, ap, length}
+use Rattle.script_run.proofs.Blocks.{shared_ran, kinds_no_stats, kinds_length}
+use Rattle.script_run.proofs.block.shared_block.Goals as goal
+
+pub forget-requires : goal.forget-requires
+forget-requires g c = ap length c.deref.ensures.value ∙ kinds_length c.args.roster.now c.args.block.now c.run_lines.new.replies.items c.run_lines.ensures.ran.kinds
+
+pub returns-clause-ran : goal.returns-clause-ran
+returns-clause-ran g c =
+    shared_ran _ c.args.roster.now c.forget.new.roster c.args.block.now c.run_lines.new.replies.items _ _ _ _ c.requires.shared c.run_lines.ensures.ran (rw c.deref.ensures.value at c.forget.ensures)
+
+pub returns-clause-stats : goal.returns-clause-stats
+returns-clause-stats g c = kinds_no_stats c.args.roster.now c.args.block.now c.run_lines.new.replies.items c.requires.shared c.run_lines.ensures.ran.kinds

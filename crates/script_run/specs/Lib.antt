@@ -1,0 +1,9 @@
+pub mod Mounting
+pub mod Allowed
+pub mod Texts
+pub mod Clocks
+pub mod Counters
+pub mod Lines
+pub mod MountLines
+pub mod Blocks
+pub mod Runs

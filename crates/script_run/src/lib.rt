@@ -1,0 +1,24 @@
+//! The run of a script of mounts, searches, fetches and reads.
+#![tactic(auto)]
+
+mod alone;
+mod answer;
+mod block;
+mod core_lines;
+mod door_lines;
+mod ended;
+mod line;
+mod mounting;
+mod stats;
+mod sums;
+mod written;
+
+pub use alone::run_alone;
+pub use answer::Answer;
+pub use cache_reader::Report;
+pub use ended::Ended;
+pub use line::run_line;
+pub use mount_script::{Command, Reply};
+pub use mounting::mount_line;
+pub use sums::Sums;
+pub use written::write_all;
