@@ -43,10 +43,10 @@ noted_status A B status (inr h) two = let f = h.0 in omega (arith, f, two)
 
 run_ends : (tells : Bool) (blobs : Listing) (s : RunSettings) (x y : World) (ending : RunEnding) (status : ℕ) → RunEnds tells blobs s x y ending status → status ≡ 2 → ⊥
 run_ends tells blobs s x y unread status h two = let f = h.0 in omega (arith, f, two)
-run_ends tells blobs s x y (no_script t e) status h two = noted_status _ _ status h.1.1.0 two
-run_ends tells blobs s x y (no_frame t blocks) status h two = let f = h.1.0 in omega (arith, f, two)
+run_ends tells blobs s x y (no_script t e) status h two = noted_status _ _ status h.2 two
+run_ends tells blobs s x y (no_frame t blocks) status h two = let f = h.1 in omega (arith, f, two)
 run_ends tells blobs s x y no_room status h two = let f = h.0 in omega (arith, f, two)
-run_ends tells blobs s x y (ran t blocks told numbers ended) status h two = ended_status ended (sym h.1.0 ∙ two)
+run_ends tells blobs s x y (ran t blocks told numbers ended) status h two = ended_status ended (sym h.1 ∙ two)
 
 chosen : (b : Bool) (c : Command) → (if b then None else Some c) ≡ None → b ≡ true
 chosen true c e = refl

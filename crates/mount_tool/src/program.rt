@@ -50,11 +50,17 @@ pub(crate) fn run<
     rt: &Rt,
     arguments: &[String],
     sink: &mut K,
-) -> u8 {
+) -> u8
+where
+    Rt::File: Send,
+{
     if arguments.len() < 2 || arguments[1].as_str() != "-" {
         return note(sink, "usage\n", 2);
     }
-    let (Ok(input), Ok(ticks)) = (rt.clone(), rt.clone()) else {
+    let Ok(input) = rt.clone() else {
+        return 6;
+    };
+    let Ok(ticks) = rt.clone() else {
         return 6;
     };
     let sources = match open_sources(rt, arguments[0].as_str()) {
@@ -84,7 +90,10 @@ pub(crate) fn start<
 >(
     rt: &Rt,
     sink: &mut K,
-) -> u8 {
+) -> u8
+where
+    Rt::File: Send,
+{
     match arguments(rt) {
         Ok(arguments) => run(rt, &arguments, sink),
         Err(e) => refuse(sink, &e, "usage\n", 2),

@@ -22,8 +22,8 @@ pub struct Outcome<S> {
     pub sources: Vec<S>,
 }
 
-/// Does what the words say by one worker, which never waits: `mount_tool` for words that ask for no threads.
-pub fn mount_alone<
+/// Does what the words say with the first source.
+fn answer<
     A: Archive + Send + Sync + Drop,
     S: BlobSource<A> + Send + Drop,
     T: TextSource,
@@ -47,7 +47,6 @@ where
         (world (T.view script.new) (M.view frames.new) (K.view sink.new) (C.view clock.new)
             (map S.view result.sources.items))
         result.status }
-    ensures usage { result.status ≡ 2 → is_refused (texts words.now) (length sources.items) ≡ true }
 
     // The sources come back in number and order, and only the first one was read.
     ensures sources { map (λ s. (S.view s).identity) result.sources.items ≡ map (λ s. (S.view s).identity) sources.items }
@@ -73,6 +72,40 @@ where
         ),
     };
     Outcome { status, sources }
+}
+
+/// Does what the words say by one worker, which never waits: `mount_tool` for words that ask for no threads.
+pub fn mount_alone<
+    A: Archive + Send + Sync + Drop,
+    S: BlobSource<A> + Send + Drop,
+    T: TextSource,
+    K: Sink,
+    C: Clock,
+    M: FrameMaker,
+>(
+    alloc: Global,
+    words: &[String],
+    script: &mut T,
+    sources: Vec<S>,
+    frames: &mut M,
+    sink: &mut K,
+    clock: &mut C,
+) -> Outcome<S>
+where
+    M::F: Send + Drop,
+    requires { asks (command (texts words.now)) ≡ false }
+    ensures call { IsCall A.tells A.blobs (texts words.now)
+        (world (T.view script.old) (M.view frames.old) (K.view sink.old) (C.view clock.old) (map S.view sources.items))
+        (world (T.view script.new) (M.view frames.new) (K.view sink.new) (C.view clock.new)
+            (map S.view result.sources.items))
+        result.status }
+    ensures usage { result.status ≡ 2 → is_refused (texts words.now) (length sources.items) ≡ true }
+
+    // The sources come back in number and order, and only the first one was read.
+    ensures sources { map (λ s. (S.view s).identity) result.sources.items ≡ map (λ s. (S.view s).identity) sources.items }
+    ensures others { drop 1 result.sources.items ≡ drop 1 sources.items }
+{
+    answer::<A, S, T, K, C, M>(alloc, words, script, sources, frames, sink, clock)
 }
 
 /// Does what the words say with what it is handed, and gives the status: the top call of the program.

@@ -1,9 +1,9 @@
 // The command `run`: a script, by one worker.
-ghost use Rattle.std.specs.Prelude.{◌≡◌, ◌∷◌, ℕ, List, Ok, IfOk, true, string_bytes};
+ghost use Rattle.std.specs.Prelude.{◌≡◌, ◌∷◌, List, IfOk, true, string_bytes};
 ghost use Rattle.cache_outside.specs.Sources.{SourceView};
-ghost use Rattle.mount_script.specs.Scripts.{script};
 ghost use Rattle.run_setup.specs.Settings.{in_limits};
 ghost use Rattle.mount_tool.specs.Replies.{error_text, run_status};
+ghost use Rattle.script_run.specs.Blocks.{WasRead};
 ghost use Rattle.script_run.specs.Runs.{outside};
 ghost use Rattle.mount_tool.specs.Calls.{IsScriptRun, world};
 ghost use Rattle.mount_tool.specs.Steps.{IsRefusal, BlocksEnded};
@@ -68,7 +68,7 @@ fn run_blocks<A: Archive + Drop, S: BlobSource<A>, K: Sink, C: Clock, M: FrameMa
 where
     M::F: Drop,
     requires limits { in_limits settings.now ≡ true }
-    requires read { (text : List ℕ) × (script text ≡ Ok script.now) }
+    requires read { WasRead script.now }
     ensures run { BlocksEnded A.tells A.blobs settings.now script.now (M.view frames.old) (M.view frames.new)
         (outside (S.view source.old) (K.view sink.old) (C.view clock.old))
         (outside (S.view source.new) (K.view sink.new) (C.view clock.new)) result }
