@@ -13,6 +13,8 @@ use cache_outside::StdSink;
 pub use run::{Outcome, mount_alone, mount_tool};
 pub use run_setup::asks_threads;
 
+#[cfg(test)]
+mod tests;
 
 use std::process::ExitCode;
 
