@@ -6,7 +6,7 @@ use Rattle.std.specs.Prelude.{Result, Ok, Err, OnErr}
 use Rattle.cache_outside.specs.Sinks.{behind}
 use Rattle.mount_script.specs.declared.command.Line.{Line}
 use Rattle.mount_script.specs.declared.reply.Reply.{Reply}
-use Rattle.script_run.specs.Texts.{line_text, block_text, run_text}
+use Rattle.script_run.specs.Texts.{line_text, block_text}
 use Rattle.script_run.specs.Runs.{IsFront}
 
 pub behind-behind : (o : Option (List ℕ)) (s t : List ℕ) → behind (behind o s) t ≡ behind o (s ++ t)

@@ -1,7 +1,6 @@
 -- The lines of a block, one after another.
-use Rattle.std.proofs.Common.{◌≡◌, ◌∙◌, ◌<◌, ◌≤◌, ◌+◌, ◌^◌, ◌-◌, min, ℕ, zero, suc, Bool, true, false, cond, List, [], ◌∷◌, ◌++◌, length, take, get_or, sym, subst, ap, ap₂, refl, inl, inr, arith, add-one, add-zero}
-use Rattle.std.specs.Prelude.{IsTrue, Option, Some, None, option_map, ◌||◌, ◌&&◌, ◌⊎◌, ◌==◌, ◌%◌, if◌then◌else◌}
-use Rattle.std.specs.List.{list_any}
+use Rattle.std.proofs.Common.{◌≡◌, ◌∙◌, ◌<◌, ◌≤◌, ◌+◌, ℕ, zero, suc, Bool, true, false, cond, List, [], ◌∷◌, ◌++◌, length, take, get_or, sym, subst, ap, ap₂, refl, inl, inr, arith, add-one, add-zero}
+use Rattle.std.specs.Prelude.{IsTrue, Option, Some, None, option_map, ◌||◌, ◌&&◌, ◌⊎◌, ◌==◌, if◌then◌else◌}
 use Rattle.std.specs.Str.{bytes_eq}
 use Rattle.std.proofs.Math.Nat.{mod-one, le_refl, le_trans}
 use Rattle.std.proofs.Math.Path.{fun_ext}
@@ -13,7 +12,7 @@ use Rattle.cache_outside.specs.Listing.{Listing, manifest_number}
 use Rattle.cache_outside.specs.Sources.{SourceView}
 use Rattle.region_ranges.specs.declared.keys.Config.{Config}
 use Rattle.blob_parts.specs.Takes.{SourceLater}
-use Rattle.index_mounts.specs.Rosters.{MountView, RosterView, mounted, with_mount, IsRoster}
+use Rattle.index_mounts.specs.Rosters.{MountView, RosterView, mounted, IsRoster}
 use Rattle.cache_policy.specs.Policy.{PolicyView}
 use Rattle.cache_door.specs.Machine.{is_gone}
 use Rattle.cache_door.specs.Cores.{CoreView, state_of, all_tell, door_of, Later}
@@ -26,10 +25,9 @@ use Rattle.mount_script.specs.declared.command.Command.TheVariants.{Mount, Unmou
 use Rattle.mount_script.specs.declared.command.Line.{Line}
 use Rattle.mount_script.specs.declared.reply.Reply.{Reply}
 use Rattle.mount_script.specs.declared.reply.Reply.TheVariants as reply
-use Rattle.shard_replies.specs.Answers.{HasHits, HasFields, HasBytes}
 use Rattle.shard_replies.specs.ExpectedReplies.{Mounts, expected_reply, mount_reply, used_name}
 use Rattle.script_run.specs.Mounting.{mounts_of, after_line, after_block, with_name}
-use Rattle.script_run.specs.Allowed.{RunSetting, Allowed, AllowedFrom, AllowedBlock, IsPlain, IsStats, IsStatsReply, near_lines, reads_files, reads_source, unmounted_in, is_unmount_of, may_be_gone, faults_of, is_fault, Bears}
+use Rattle.script_run.specs.Allowed.{RunSetting, Allowed, AllowedFrom, IsPlain, IsStats, IsStatsReply, near_lines, reads_files, reads_source, unmounted_in, is_unmount_of, may_be_gone, faults_of, is_fault, Bears}
 use Rattle.script_run.specs.Lines.{is_shared, Cached, cached, IsAnswer, IsMarked, IsGone, HasKind, FilesKind, LineDoes}
 use Rattle.script_run.specs.declared.sums.Sums.{Sums}
 use Rattle.script_run.specs.MountLines.{MountKind, MountsOne, RosterGoes, MountDoes}

@@ -2,7 +2,7 @@
 use Rattle.std.proofs.Common.{◌≡◌, ℕ, Bool, true, false, List, [], ◌∷◌, ◌++◌, subst, refl, inl, inr, zero, suc}
 use Rattle.std.specs.Prelude.{Some, Result, Ok, Err, slice_get, if◌then◌else◌}
 use Rattle.mount_script.specs.Blocks.{Entry, divider, one, stands_alone, put_block, blocks}
-use Rattle.mount_script.specs.Scripts.{script, blocks_of, entries, lines_of, is_too_long}
+use Rattle.mount_script.specs.Scripts.{blocks_of, entries, lines_of, is_too_long}
 use Rattle.mount_script.specs.declared.command.Command.{Command}
 use Rattle.mount_script.specs.declared.command.Command.TheVariants.{Mount, Unmount, Clear, Decay, Stats, Search, Fetch, Read}
 use Rattle.mount_script.specs.declared.command.Line.{Line}

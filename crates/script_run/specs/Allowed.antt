@@ -4,7 +4,7 @@ use Rattle.std.specs.List.{list_any}
 use Rattle.std.specs.Str.{bytes_eq}
 use Rattle.cache_outside.specs.Listing.{Listing}
 use Rattle.mount_script.specs.declared.command.Command.{Command}
-use Rattle.mount_script.specs.declared.command.Command.TheVariants.{Mount, Unmount, Clear, Decay, Stats, Search, Fetch, Read}
+use Rattle.mount_script.specs.declared.command.Command.TheVariants.{Mount, Unmount, Stats, Search, Fetch, Read}
 use Rattle.mount_script.specs.declared.command.Line.{Line}
 use Rattle.mount_script.specs.declared.reply.Reply.{Reply}
 use Rattle.mount_script.specs.declared.reply.Reply.TheVariants as reply

@@ -1,5 +1,5 @@
 -- What a `mount` line answers, and what it makes of the roster and the door.
-use Rattle.std.specs.Prelude.{ℕ, ◌≡◌, ◌⊎◌, List, Bool, IsTrue, Option, Some, None, Ok}
+use Rattle.std.specs.Prelude.{ℕ, ◌≡◌, List, Bool, IsTrue, Option, Some, None, Ok}
 use Rattle.cache_outside.specs.Listing.{Listing, manifest_number}
 use Rattle.mount_manifest.specs.Manifest.{Facts}
 use Rattle.blob_parts.specs.Tables.{TableParts}

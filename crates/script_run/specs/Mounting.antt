@@ -1,5 +1,5 @@
 -- What is mounted while a script runs, by its lines so far and their replies.
-use Rattle.std.specs.Prelude.{ℕ, ◌≡◌, ◌+◌, List, ◌∷◌, Option, Some, None, option_map, if◌then◌else◌}
+use Rattle.std.specs.Prelude.{ℕ, ◌+◌, List, ◌∷◌, Option, None, option_map, if◌then◌else◌}
 use Rattle.std.specs.Str.{bytes_eq}
 use Rattle.cache_outside.specs.Listing.{Listing, manifest_number}
 use Rattle.index_mounts.specs.Rosters.{MountView, RosterView, mounted}

@@ -1,5 +1,5 @@
 -- How a run may end, and what holds of it then.
-use Rattle.std.specs.Prelude.{ℕ, ◌≡◌, List, [], ◌++◌, length, take, Bool, false, IsTrue, Option, option_map}
+use Rattle.std.specs.Prelude.{ℕ, ◌≡◌, List, [], ◌++◌, length, take, false, Option, option_map}
 use Rattle.cache_outside.specs.Causes.{Rose}
 use Rattle.cache_outside.specs.Sinks.{SinkView, behind}
 use Rattle.cache_outside.specs.Sources.{SourceView}

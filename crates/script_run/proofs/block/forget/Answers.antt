@@ -1,8 +1,4 @@
-use Rattle.std.proofs.Common.{◌≡◌, ◌<◌, ◌∙◌, length, arith, ap, subst, take, ℕ, List}
-use Rattle.std.proofs.Math.Seq.{take-length}
-use Rattle.std.specs.Prelude.{None, if◌then◌else◌}
-use Rattle.index_mounts.specs.Rosters.{mounted}
-use Rattle.script_run.specs.Blocks.{forgets_any}
+use Rattle.std.proofs.Common.{◌<◌, ◌∙◌, length, arith}
 use Rattle.script_run.proofs.Blocks.{forgotten_more}
 use Rattle.script_run.proofs.block.forget.Goals as goal
 

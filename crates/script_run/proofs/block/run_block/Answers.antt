@@ -1,4 +1,4 @@
-use Rattle.std.proofs.Common.{◌≡◌, ◌∙◌, ap, sym, refl, rules, false, List, ◌++◌, ◌∷◌, []}
+use Rattle.std.proofs.Common.{◌≡◌, ◌∙◌, ap, false, List, ◌++◌, ◌∷◌, []}
 use Rattle.mount_script.specs.declared.reply.Reply.{Reply}
 use Rattle.mount_script.specs.declared.command.Command.TheVariants.{Mount}
 use Rattle.mount_script.specs.declared.command.Line.{Line}

@@ -1,4 +1,4 @@
-use Rattle.std.proofs.Common.{◌≡◌, ◌≤◌, length, take}
+use Rattle.std.proofs.Common.{◌≡◌, ◌≤◌, take}
 use Rattle.cache_outside.specs.Sinks.{behind}
 use Rattle.script_run.specs.Texts.{block_text}
 use Rattle.script_run.proofs.written.write_block.Given as goal
