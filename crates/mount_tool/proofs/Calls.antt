@@ -54,7 +54,7 @@ pub run_call : {S : Type 0} (view : S → SourceView) (sources : List S) (a b : 
 run_call view [] a b tells blobs words text now m n k l c d s status some is asked alone h = absurd (omega (arith, some))
 run_call view (x ∷ xs) a b tells blobs words text now m n k l c d s status some is asked alone h =
     run_here tells blobs words (view x) (view b) (map view xs) text now m n k l c d s status asked alone
-      (subst (λ y. IsScriptRun tells blobs s (world text m k c (view y ∷ map view xs)) (world now n l d (view b ∷ map view xs)) status) is (h (map view xs)))
+    (subst (λ y. IsScriptRun tells blobs s (world text m k c (view y ∷ map view xs)) (world now n l d (view b ∷ map view xs)) status) is (h (map view xs)))
 
 -- the first source is still the same
 pub same_identity : {S : Type 0} (view : S → SourceView) (sources : List S) (a b : S) → 0 < length sources → a ≡ get_or sources 0 a → (view b).identity ≡ (view a).identity
@@ -67,4 +67,4 @@ pub usage_of : {S : Type 0} (view : S → SourceView) (sources : List S) (tells 
     → IsCall tells blobs words (world text m k c (map view sources)) y status → status ≡ 2 → is_refused words (length sources) ≡ true
 usage_of view sources tells blobs words text m k c y status h two =
     subst (λ n. refuses n (command words) ≡ true) (length-map sources view)
-      (only_refused tells blobs (length (map view sources)) (command words) (world text m k c (map view sources)) y status h two)
+    (only_refused tells blobs (length (map view sources)) (command words) (world text m k c (map view sources)) y status h two)

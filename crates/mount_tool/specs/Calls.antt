@@ -55,11 +55,11 @@ pub record OnlyWrote (x y : World) : Type 0 where
 -- ---- the command `run`
 
 pub data RunEnding : Type 0 where
-  unread : RunEnding                                                          -- the source of the script's text failed
-  no_script : List ℕ → ScriptError → RunEnding                                -- this text is no script
-  no_frame : List ℕ → List (List Line) → RunEnding                            -- the maker of frames failed
-  no_room : RunEnding                                                         -- memory was wanted before the first block
-  ran : List ℕ → List (List Line) → Bool → CoreNumbers → Ended → RunEnding    -- the script ran, over frames of which it is known whether they tell
+  unread : RunEnding  -- the source of the script's text failed
+  no_script : List ℕ → ScriptError → RunEnding  -- this text is no script
+  no_frame : List ℕ → List (List Line) → RunEnding  -- the maker of frames failed
+  no_room : RunEnding  -- memory was wanted before the first block
+  ran : List ℕ → List (List Line) → Bool → CoreNumbers → Ended → RunEnding  -- the script ran, over frames of which it is known whether they tell
 
 -- the text was read to its end, or to the first byte that a script may not have, and is the script of these blocks
 abbrev pub IsScriptText : World → List ℕ → List (List Line) → Type 0
@@ -75,7 +75,7 @@ RunEnds tells blobs s x y no_room status = (status ≡ 6) × IsUnrun x y
 RunEnds tells blobs s x y (ran t blocks told numbers ended) status =
     IsScriptText x t blocks × (status ≡ run_status ended) × (IsTrue x.maker.tells → told ≡ true)
     × IsRun (alone (tells && told) blobs s.regions) blocks
-      (outside (first_source x.sources) x.sink x.clock) (outside (first_source y.sources) y.sink y.clock) numbers ended
+    (outside (first_source x.sources) x.sink x.clock) (outside (first_source y.sources) y.sink y.clock) numbers ended
 
 -- a run of a script by one worker: how it ended, and what holds of that ending
 pub record IsScriptRun (tells : Bool) (blobs : Listing) (s : RunSettings) (x y : World) (status : ℕ) : Type 0 where

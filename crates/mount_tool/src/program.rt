@@ -46,11 +46,7 @@ fn refuse<K: Sink>(sink: &mut K, error: &io::Error, line: &str, status: u8) -> u
 pub(crate) fn run<
     Rt: Files + Input + time::Clock + Threads + Wait + Send + Sync + AllocGlobal + Clone + Drop,
     K: Sink,
->(
-    rt: &Rt,
-    arguments: &[String],
-    sink: &mut K,
-) -> u8
+>(rt: &Rt, arguments: &[String], sink: &mut K) -> u8
 where
     Rt::File: Send,
 {
@@ -85,12 +81,19 @@ where
 
 /// Runs the program over the arguments that it was started with.
 pub(crate) fn start<
-    Rt: Env + Files + Input + time::Clock + Threads + Wait + Send + Sync + AllocGlobal + Clone + Drop,
+    Rt: Env
+        + Files
+        + Input
+        + time::Clock
+        + Threads
+        + Wait
+        + Send
+        + Sync
+        + AllocGlobal
+        + Clone
+        + Drop,
     K: Sink,
->(
-    rt: &Rt,
-    sink: &mut K,
-) -> u8
+>(rt: &Rt, sink: &mut K) -> u8
 where
     Rt::File: Send,
 {

@@ -45,7 +45,7 @@ where
     ensures call { IsCall A.tells A.blobs (texts words.now)
         (world (T.view script.old) (M.view frames.old) (K.view sink.old) (C.view clock.old) (map S.view sources.items))
         (world (T.view script.new) (M.view frames.new) (K.view sink.new) (C.view clock.new)
-            (map S.view result.sources.items))
+        (map S.view result.sources.items))
         result.status }
 
     // The sources come back in number and order, and only the first one was read.
@@ -97,7 +97,7 @@ where
     ensures call { IsCall A.tells A.blobs (texts words.now)
         (world (T.view script.old) (M.view frames.old) (K.view sink.old) (C.view clock.old) (map S.view sources.items))
         (world (T.view script.new) (M.view frames.new) (K.view sink.new) (C.view clock.new)
-            (map S.view result.sources.items))
+        (map S.view result.sources.items))
         result.status }
     ensures usage { result.status ≡ 2 → is_refused (texts words.now) (length sources.items) ≡ true }
 
@@ -150,7 +150,7 @@ where
     ensures call { IsCall A.tells A.blobs (texts words.now)
         (world (T.view script.old) (M.view frames.old) (K.view sink.old) (C.view clock.old) (map S.view sources.items))
         (world (T.view script.new) (M.view frames.new) (K.view sink.new) (C.view clock.new)
-            (map S.view result.sources.items))
+        (map S.view result.sources.items))
         result.status }
     ensures usage { result.status ≡ 2 → is_refused (texts words.now) (length sources.items) ≡ true }
 

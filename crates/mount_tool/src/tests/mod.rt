@@ -57,12 +57,7 @@ pub(crate) fn called<Rt: Threads + Wait + Sync>(
         return Err(AllocError);
     }
     let mut sources = Vec::new(alloc);
-    sources.push(MemSource::<SampleArchive>::new(
-        alloc,
-        blobs,
-        plan.step.max(1),
-        plan.source,
-    ))?;
+    sources.push(MemSource::<SampleArchive>::new(alloc, blobs, plan.step.max(1), plan.source))?;
     let words = words_of(alloc, words)?;
     let mut script = MemText::new(Text::of(alloc, script)?, plan.step.max(1), plan.text);
     let mut frames = MemFrames::new(alloc, plan.frames);

@@ -38,7 +38,12 @@ const ROWS: [Row; 8] = [
         "1 mounted 1 files 3 docs\n2 refused name\n3 decayed\n4 cleared\n5 not mounted\n7 unmounted\n9 not mounted\n",
         0,
     ),
-    ("region=4096", "mount logs mount-x\nfind logs\n", "line 2\n", 3),
+    (
+        "region=4096",
+        "mount logs mount-x\nfind logs\n",
+        "line 2\n",
+        3,
+    ),
     ("workers=2", "", "usage\n", 2),
 ];
 
@@ -59,8 +64,10 @@ fn whole_scripts(rt: HostRuntime) -> Result<(), AllocError> {
 #[test]
 fn one_region(rt: HostRuntime) -> Result<(), AllocError> {
     let alloc = rt.alloc();
-    let script = b"mount y mount-y\nread y big.bin 0 4\nread y big.bin 4096 4\nread y big.bin 0 4\nstats\n";
-    let wanted = b"1 mounted 1 files 0 docs\n2 bytes 4 00010203\n3 bytes 4 50515253\n4 bytes 4 00010203\n5 stats free 0 listed 1 leaving 0 evictions 2 promotions 0 demotions 0 fetched 12288 direct 0\n";
+    let script =
+        b"mount y mount-y\nread y big.bin 0 4\nread y big.bin 4096 4\nread y big.bin 0 4\nstats\n";
+    let wanted =
+        b"1 mounted 1 files 0 docs\n2 bytes 4 00010203\n3 bytes 4 50515253\n4 bytes 4 00010203\n5 stats free 0 listed 1 leaving 0 evictions 2 promotions 0 demotions 0 fetched 12288 direct 0\n";
     let words = ["run", "regions=1", "region=4096"];
     let (answer, sink) = called(&rt, alloc, &words, script, smooth(alloc, 65_536))?;
     assert_eq!(rt; answer, 0);
@@ -113,6 +120,9 @@ fn calls_that_fail(rt: HostRuntime) -> Result<(), AllocError> {
     let script = b"mount y mount-y\nread y big.bin 0 4\nread y big.bin 0 4\n";
     let (answer, sink) = called(&rt, alloc, &words, script, plan)?;
     assert_eq!(rt; answer, 1);
-    assert_eq!(rt; sink.written(), b"1 mounted 1 files 0 docs\n2 fault\n3 bytes 4 00010203\n".as_slice());
+    assert_eq!(rt;
+        sink.written(),
+        b"1 mounted 1 files 0 docs\n2 fault\n3 bytes 4 00010203\n".as_slice()
+    );
     Ok(())
 }
