@@ -644,6 +644,22 @@ class Lines(PackTest):
                 read = texts.read_text(io.BytesIO(packed.bytes_of(name + ending)), table(docs))
                 self.assertEqual((read.bad, read.is_checksum_right), (None, True))
 
+    def test_scripts_run(self):
+        """the program runs scripts from its standard input"""
+        sample = os.path.join(TOP, "crates", "mount_tool", "data", "x")
+        rows = [
+            (["region=4096"], b"mount logs mount-x\nsearch logs 10 {\"term\":{\"body\":\"fox\"}}\n",
+             b"1 mounted 1 files 3 docs\n2 hits 2 _0/0 _0/2\n", 0),
+            ([], b"mount logs mount-x\nread logs _0.pst 98 4", b"1 mounted 1 files 3 docs\n2 bytes 4 20726564\n", 0),
+            ([], b"", b"", 0),
+            ([], b"mount logs mount-x\nfind logs\n", b"line 2\n", 3),
+            (["workers=9"], b"", b"usage\n", 2),
+        ]
+        for words, script, wanted, status in rows:
+            done = subprocess.run([self.program(), sample, "-", "run"] + words, input=script, stdout=subprocess.PIPE,
+                                  check=False)
+            self.assertEqual((done.stdout, done.returncode), (wanted, status))
+
     def test_thousand_lines_searched(self):
         """the program finds every term of ten documents"""
         self.program()

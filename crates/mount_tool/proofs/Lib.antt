@@ -1,4 +1,7 @@
-pub mod Behind
-pub mod Counts
 pub mod Allowed
 pub mod Sample
+pub mod Usage
+pub mod Accepted
+pub mod Ends
+pub mod Cores
+pub mod Calls

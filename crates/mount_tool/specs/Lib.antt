@@ -1,4 +1,5 @@
-pub mod Words
 pub mod Replies
 pub mod Terms
 pub mod Runs
+pub mod Calls
+pub mod Steps

@@ -5,7 +5,7 @@ use Rattle.blob_parts.specs.Content.{content}
 use Rattle.query_lang.specs.Trees.{term}
 use Rattle.mount_script.specs.declared.reply.Reply.{Reply}
 use Rattle.shard_replies.specs.ExpectedReplies.{Loaded, loaded, tree_reply}
-use Rattle.mount_tool.specs.Words.{Term}
+use Rattle.run_setup.specs.Words.{Term}
 
 -- a search for a term of a field, of which at most 10,000 hits are shown; or why the manifest is not mounted
 abbrev pub loaded_reply : List ℕ → List ℕ → Listing → Result Loaded Reply → Reply

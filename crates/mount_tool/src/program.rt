@@ -1,9 +1,12 @@
 // The program over a runtime: its arguments, the sources over a folder, and what it writes where it has none.
+use crate::note::note;
 use crate::run::mount_tool;
-use crate::write::write_all;
-use cache_outside::{FolderSource, OutError, Sink, Untold};
+use cache_frame::MemFrames;
+use cache_outside::{FolderSource, Sink, StdClock, StdText, Untold};
 use std::rt::{Env, Files};
-use std::{env, io};
+use std::sync::Wait;
+use std::thread::Threads;
+use std::{env, io, time};
 
 /// How many sources are made over the folder.
 const SOURCES: usize = 8;
@@ -28,14 +31,6 @@ fn open_sources<Rt: Files + AllocGlobal + Clone + Drop>(
     Ok(sources)
 }
 
-/// Writes a line of the program's own, and gives the status: this one, or 6 where the sink wanted memory.
-fn note<K: Sink>(sink: &mut K, text: &str, status: u8) -> u8 {
-    match write_all(sink, text.as_bytes()) {
-        Err(OutError::NoMemory) => 6,
-        Ok(()) | Err(OutError::Failed) => status,
-    }
-}
-
 /// What is written and answered where the arguments or the folder could not be read: `line` with `status`, or
 /// nothing with 6 for want of memory.
 fn refuse<K: Sink>(sink: &mut K, error: &io::Error, line: &str, status: u8) -> u8 {
@@ -45,30 +40,63 @@ fn refuse<K: Sink>(sink: &mut K, error: &io::Error, line: &str, status: u8) -> u
     note(sink, line, status)
 }
 
-/// Runs the program over its arguments, `FOLDER CACHE WORDS..`, and gives its status. Before the words are looked at,
-/// fewer than two arguments or another cache than `-` are `usage` with 2, and a folder that cannot be listed is
-/// `folder` with 7.
-pub(crate) fn run<Rt: Files + AllocGlobal + Clone + Drop, K: Sink>(
-    rt: &Rt,
-    arguments: &[String],
-    sink: &mut K,
-) -> u8 {
+/// Runs the program over its arguments, `FOLDER CACHE WORDS..`, with the script from the standard input and frames in
+/// memory, and gives its status. Before the words are looked at, fewer than two arguments or another cache than `-` are
+/// `usage` with 2, and a folder that cannot be listed is `folder` with 7.
+pub(crate) fn run<
+    Rt: Files + Input + time::Clock + Threads + Wait + Send + Sync + AllocGlobal + Clone + Drop,
+    K: Sink,
+>(rt: &Rt, arguments: &[String], sink: &mut K) -> u8
+where
+    Rt::File: Send,
+{
     if arguments.len() < 2 || arguments[1].as_str() != "-" {
         return note(sink, "usage\n", 2);
     }
-    match open_sources(rt, arguments[0].as_str()) {
-        Ok(sources) => {
-            mount_tool::<Untold, _, _>(rt.alloc(), &arguments[2..], sources, sink).status
-        }
-        Err(e) => refuse(sink, &e, "folder\n", 7),
-    }
+    let Ok(input) = rt.clone() else {
+        return 6;
+    };
+    let Ok(ticks) = rt.clone() else {
+        return 6;
+    };
+    let sources = match open_sources(rt, arguments[0].as_str()) {
+        Ok(sources) => sources,
+        Err(e) => return refuse(sink, &e, "folder\n", 7),
+    };
+    let mut script = StdText::new(input);
+    let mut clock = StdClock::new(ticks);
+    let mut frames = MemFrames::new(rt.alloc(), Vec::new(rt.alloc()));
+    let outcome = mount_tool::<Rt, Untold, _, _, _, _, _>(
+        rt,
+        rt.alloc(),
+        &arguments[2..],
+        &mut script,
+        sources,
+        &mut frames,
+        sink,
+        &mut clock,
+    );
+    outcome.status
 }
 
 /// Runs the program over the arguments that it was started with.
-pub(crate) fn start<Rt: Env + Files + AllocGlobal + Clone + Drop, K: Sink>(
-    rt: &Rt,
-    sink: &mut K,
-) -> u8 {
+pub(crate) fn start<
+    Rt: Env
+        + Files
+        + Input
+        + time::Clock
+        + Threads
+        + Wait
+        + Send
+        + Sync
+        + AllocGlobal
+        + Clone
+        + Drop,
+    K: Sink,
+>(rt: &Rt, sink: &mut K) -> u8
+where
+    Rt::File: Send,
+{
     match arguments(rt) {
         Ok(arguments) => run(rt, &arguments, sink),
         Err(e) => refuse(sink, &e, "usage\n", 2),

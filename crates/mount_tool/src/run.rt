@@ -1,16 +1,19 @@
-// The top call: what the words ask for, done with the sources and written to the sink.
-ghost use Rattle.std.specs.Prelude.{◌≡◌, ◌<◌, ◌++◌, List, ℕ, true, Some, length, map, drop};
-ghost use Rattle.std.specs.Prelude.{option_map, codes, string_bytes};
-ghost use Rattle.mount_tool.specs.Runs.{IsWritten, IsTermRun, IsUsageRun, count_of, is_usage};
-ghost use Rattle.mount_tool.specs.Words.{Term, term_words, texts};
-ghost use Rattle.mount_script.specs.Replies.{text_of};
-ghost use Rattle.mount_tool.specs.Replies.{status_of};
+// The top call: what the words ask for, done with what it is handed.
+ghost use Rattle.std.specs.Prelude.{◌≡◌, length, map, drop, true, false};
+ghost use Rattle.run_setup.specs.Words.{texts, command, asks};
+ghost use Rattle.mount_tool.specs.Calls.{IsCall, world, is_refused};
 
-use crate::search::term_reply;
-use crate::write::write_all;
-use cache_outside::{Archive, BlobSource, OutError, Sink};
-use mount_script::Reply;
+use crate::note::note;
+use crate::script::run_script;
+use crate::term::run_term;
+use cache_outside::{Archive, BlobSource, Clock, FrameMaker, Sink, TextSource};
+use run_setup::{Asked, asked_of, asks_threads};
 use std::alloc::Global;
+use std::sync::Wait;
+use std::thread::Threads;
+
+/// What is written where the words are not in form.
+const USAGE: &str = "usage\n";
 
 /// How a run ended: the program's status, and the sources that were handed in, in their order.
 #[derive(Drop)]
@@ -19,108 +22,149 @@ pub struct Outcome<S> {
     pub sources: Vec<S>,
 }
 
-/// The words of `term MANIFEST FIELD TERM`.
-#[derive(Clone, Copy)]
-struct TermWords<'w> {
-    manifest: &'w str,
-    field: &'w str,
-    term: &'w str,
-}
-
-fn term_of(words: &[String]) -> Option<TermWords<'_>>
-    ensures { option_map (λ w. record { manifest = w.manifest.now; field = w.field.now; term = w.term.now }) result
-        ≡ term_words (texts words.now) }
-{
-    match words {
-        [command, manifest, field, term] => {
-            if command.as_str() == "term" {
-                Some(TermWords {
-                    manifest: manifest.as_str(),
-                    field: field.as_str(),
-                    term: term.as_str(),
-                })
-            } else {
-                None
-            }
-        }
-        _ => None,
-    }
-}
-
-/// The program's status where a reply was written whole.
-fn status_of(reply: &Reply) -> u8
-    ensures { result ≡ status_of reply.now }
-{
-    match reply {
-        Reply::Hits { .. } => 0,
-        Reply::NoMemory => 6,
-        _ => 1,
-    }
-}
-
-/// Writes a reply and a newline, and gives the status: the reply's own, 5 where the sink failed, 6 for want of memory.
-fn finish<K: Sink>(alloc: Global, sink: &mut K, reply: &Reply) -> u8
-    ensures { IsWritten (K.view sink.old) (K.view sink.new)
-        (text_of reply.now ++ codes "\n") (status_of reply.now) result }
-{
-    let Ok(mut text) = reply.text(alloc) else {
-        return 6;
-    };
-    if text.push(b'\n').is_err() {
-        return 6;
-    }
-    match write_all(sink, text.as_bytes()) {
-        Ok(()) => status_of(reply),
-        Err(OutError::Failed) => 5,
-        Err(OutError::NoMemory) => 6,
-    }
-}
-
-fn usage<S: Drop, K: Sink>(sources: Vec<S>, sink: &mut K) -> Outcome<S>
-    ensures run { IsUsageRun (K.view sink.old) (K.view sink.new) result.status }
-    ensures sources { result.sources ≡ sources }
-{
-    match write_all(sink, b"usage\n") {
-        Ok(()) | Err(OutError::Failed) => Outcome { status: 2, sources },
-        Err(OutError::NoMemory) => Outcome { status: 6, sources },
-    }
-}
-
-/// Does what the words say with the first source, and writes what comes of it.
-///
-/// The words are `term MANIFEST FIELD TERM`. The status is 2 where they are not, or no source is handed in; 5 where
-/// the sink failed; 6 for want of memory; 1 where the reply written is a refusal or `fault`; and 0 where it is `hits`.
-pub fn mount_tool<A: Archive, S: BlobSource<A> + Drop, K: Sink>(
+/// Does what the words say with the first source.
+fn answer<
+    A: Archive + Send + Sync + Drop,
+    S: BlobSource<A> + Send + Drop,
+    T: TextSource,
+    K: Sink,
+    C: Clock,
+    M: FrameMaker,
+>(
     alloc: Global,
     words: &[String],
+    script: &mut T,
     mut sources: Vec<S>,
+    frames: &mut M,
     sink: &mut K,
+    clock: &mut C,
 ) -> Outcome<S>
-    ensures usage_only { result.status ≡ 2 → is_usage (term_words (texts words.now)) (length sources.items) ≡ true }
-    ensures usage { is_usage (term_words (texts words.now)) (length sources.items) ≡ true
-        → IsUsageRun (K.view sink.old) (K.view sink.new) result.status }
-    ensures term { (t : Term) → term_words (texts words.now) ≡ Some t → 0 < length sources.items
-        → IsTermRun A.tells A.blobs t (count_of (λ s. (S.view s).faults) sources.items 0)
-        (count_of (λ s. (S.view s).faults) result.sources.items 0) (K.view sink.old) (K.view sink.new) result.status }
+where
+    M::F: Send + Drop,
+    requires { asks (command (texts words.now)) ≡ false }
+    ensures call { IsCall A.tells A.blobs (texts words.now)
+        (world (T.view script.old) (M.view frames.old) (K.view sink.old) (C.view clock.old) (map S.view sources.items))
+        (world (T.view script.new) (M.view frames.new) (K.view sink.new) (C.view clock.new)
+        (map S.view result.sources.items))
+        result.status }
 
     // The sources come back in number and order, and only the first one was read.
     ensures sources { map (λ s. (S.view s).identity) result.sources.items
         ≡ map (λ s. (S.view s).identity) sources.items }
     ensures others { drop 1 result.sources.items ≡ drop 1 sources.items }
 {
-    let Some(words) = term_of(words) else {
-        return usage(sources, sink);
+    let Some(asked) = asked_of(words) else {
+        let status = note(sink, USAGE, 2);
+        return Outcome { status, sources };
     };
     if sources.is_empty() {
-        return usage(sources, sink);
+        let status = note(sink, USAGE, 2);
+        return Outcome { status, sources };
     }
-    let reply = term_reply(
-        alloc,
-        &mut sources[0],
-        words.manifest,
-        words.field,
-        words.term,
-    );
-    let status = finish(alloc, sink, &reply);
+    let source = &mut sources[0];
+    let status = match asked {
+        Asked::Term {
+            manifest,
+            field,
+            term,
+        } => run_term::<A, S, K>(alloc, source, manifest, field, term, sink),
+        Asked::Run(settings) => run_script::<A, S, T, K, C, M>(
+            alloc, &settings, script, source, frames, sink, clock,
+        ),
+    };
     Outcome { status, sources }
+}
+
+/// Does what the words say by one worker, which never waits: `mount_tool` for words that ask for no threads.
+pub fn mount_alone<
+    A: Archive + Send + Sync + Drop,
+    S: BlobSource<A> + Send + Drop,
+    T: TextSource,
+    K: Sink,
+    C: Clock,
+    M: FrameMaker,
+>(
+    alloc: Global,
+    words: &[String],
+    script: &mut T,
+    sources: Vec<S>,
+    frames: &mut M,
+    sink: &mut K,
+    clock: &mut C,
+) -> Outcome<S>
+where
+    M::F: Send + Drop,
+    requires { asks (command (texts words.now)) ≡ false }
+    ensures call { IsCall A.tells A.blobs (texts words.now)
+        (world (T.view script.old) (M.view frames.old) (K.view sink.old) (C.view clock.old) (map S.view sources.items))
+        (world (T.view script.new) (M.view frames.new) (K.view sink.new) (C.view clock.new)
+        (map S.view result.sources.items))
+        result.status }
+    ensures usage { result.status ≡ 2 → is_refused (texts words.now) (length sources.items) ≡ true }
+
+    // The sources come back in number and order, and only the first one was read.
+    ensures sources { map (λ s. (S.view s).identity) result.sources.items
+        ≡ map (λ s. (S.view s).identity) sources.items }
+    ensures others { drop 1 result.sources.items ≡ drop 1 sources.items }
+{
+    answer::<A, S, T, K, C, M>(alloc, words, script, sources, frames, sink, clock)
+}
+
+/// Does what the words say with what it is handed, and gives the status: the top call of the program.
+///
+/// The words are those of `run_setup`: `term MANIFEST FIELD TERM`, read from the first source without a cache, or `run`
+/// and its settings, which runs the script that is read. Until several workers run scripts, words that ask for two or
+/// more are answered like words that are not in form. The statuses, in order of precedence:
+///
+/// - 2 exactly where the words are not in form, or ask for more workers than there are sources; `usage` is written.
+/// - 4 only where the source of the script's text failed; nothing is written.
+/// - 3 exactly where the text, read to its end or to its 1,048,577th byte, is no script; `line N` or `too long` is
+///   written.
+/// - 7 only where the maker of frames failed; nothing is written.
+/// - 5 only where the sink failed in the run; a front of the text of the replies is written.
+/// - 6 for want of memory, also of a line; a front of the text, or all of it, is written.
+/// - 1 exactly where a line was `fault` or `gone` and none of the above; for `term` where its reply is neither hits nor
+///   `no memory`.
+/// - 0 otherwise; the text of the replies is written whole.
+///
+/// Of `usage`, `line N` and `too long` a front alone is written only where the sink failed; where it wanted memory the
+/// status is 6.
+pub fn mount_tool<
+    Rt: Threads + Wait + Sync,
+    A: Archive + Send + Sync + Drop,
+    S: BlobSource<A> + Send + Drop,
+    T: TextSource,
+    K: Sink,
+    C: Clock,
+    M: FrameMaker,
+>(
+    rt: &Rt,
+    alloc: Global,
+    words: &[String],
+    script: &mut T,
+    sources: Vec<S>,
+    frames: &mut M,
+    sink: &mut K,
+    clock: &mut C,
+) -> Outcome<S>
+where
+    M::F: Send + Drop,
+    ensures call { IsCall A.tells A.blobs (texts words.now)
+        (world (T.view script.old) (M.view frames.old) (K.view sink.old) (C.view clock.old) (map S.view sources.items))
+        (world (T.view script.new) (M.view frames.new) (K.view sink.new) (C.view clock.new)
+        (map S.view result.sources.items))
+        result.status }
+    ensures usage { result.status ≡ 2 → is_refused (texts words.now) (length sources.items) ≡ true }
+
+    // The sources come back in number and order, and only the first one was read.
+    ensures sources { map (λ s. (S.view s).identity) result.sources.items
+        ≡ map (λ s. (S.view s).identity) sources.items }
+    ensures others { drop 1 result.sources.items ≡ drop 1 sources.items }
+{
+    let _ = rt;
+    if asks_threads(words) {
+        let status = note(sink, USAGE, 2);
+        return Outcome { status, sources };
+    }
+    mount_alone::<A, S, T, K, C, M>(alloc, words, script, sources, frames, sink, clock)
 }

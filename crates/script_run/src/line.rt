@@ -108,8 +108,9 @@ fn mounted_line<A: Archive, D: CacheDoor<A>, S: BlobSource<A>>(
     ensures stays { D.stays door.old door.new }
     ensures hold { (D.view door.new).hold ≡ nothing }
     ensures source { SourceLater (S.view source.old) (S.view source.new) (result.reply ≡ reply.Fault) }
-    ensures does { LineDoes (cached A.tells A.blobs config.now) now command.now (Some (mount_view mount.now)) result.reply
-        result.report (moment (S.view source.old) (D.view door.old)) (moment (S.view source.new) (D.view door.new)) }
+    ensures does { LineDoes (cached A.tells A.blobs config.now) now command.now (Some (mount_view mount.now))
+        result.reply result.report (moment (S.view source.old) (D.view door.old))
+        (moment (S.view source.new) (D.view door.new)) }
 {
     match command {
         Command::Unmount { .. } => {
@@ -134,8 +135,8 @@ fn mounted_line<A: Archive, D: CacheDoor<A>, S: BlobSource<A>>(
 /// The reply is the one that whole files give, or a mark. `Fault` comes only on a line that reads files, and only
 /// where the source's count of failures rose in this call; `Gone` only on such a line, and only where the door has
 /// seen its mount unmounted; `NoMemory` is free. Whatever the archive tells, the reply is of its command's kind:
-/// `Unmounted` exactly on an `unmount` of a name of the roster, and so `Cleared` and `Decayed`. Where the name is of no mount, neither the door nor the source is
-/// asked. Whatever the answer, the door holds nothing behind it.
+/// `Unmounted` exactly on an `unmount` of a name of the roster, and so `Cleared` and `Decayed`. Where the name is of no
+/// mount, neither the door nor the source is asked. Whatever the answer, the door holds nothing behind it.
 pub fn run_line<A: Archive, D: CacheDoor<A>, S: BlobSource<A>>(
     alloc: Global,
     door: &mut D,
@@ -157,9 +158,9 @@ pub fn run_line<A: Archive, D: CacheDoor<A>, S: BlobSource<A>>(
     ensures stays { D.stays door.old door.new }
     ensures hold { (D.view door.new).hold ≡ nothing }
     ensures source { SourceLater (S.view source.old) (S.view source.new) (result.reply ≡ reply.Fault) }
-    ensures does { LineDoes (cached A.tells A.blobs config.now) now command.now (mounted (used_name command.now) roster.now)
-        result.reply result.report (moment (S.view source.old) (D.view door.old))
-        (moment (S.view source.new) (D.view door.new)) }
+    ensures does { LineDoes (cached A.tells A.blobs config.now) now command.now
+        (mounted (used_name command.now) roster.now) result.reply result.report
+        (moment (S.view source.old) (D.view door.old)) (moment (S.view source.new) (D.view door.new)) }
 {
     let Some(name) = named(command) else {
         door.decay(now);

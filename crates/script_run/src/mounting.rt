@@ -45,7 +45,8 @@ fn add_mount<A: Archive, D: CacheDoor<A>>(
     requires free { check_of name.now roster.old ≡ Ok tt }
     ensures reply { IsOrNoMemory (mounted manifest) result }
     ensures stays { D.stays door.old door.new }
-    ensures adds { MayAdd name.now number manifest parts roster.old roster.new (D.view door.old) (D.view door.new) result }
+    ensures adds { MayAdd name.now number manifest parts roster.old roster.new (D.view door.old) (D.view door.new)
+        result }
 {
     let reply = mounted_reply(&manifest);
     let Ok(name) = name.clone() else {

@@ -1,0 +1,70 @@
+-- A whole call, by what it did with its first source.
+use Rattle.std.proofs.Common.{◌≡◌, ℕ, ◌<◌, List, [], ◌∷◌, length, map, get_or, set, Bool, true, false, refl, ap, sym, subst, ◌∙◌, arith}
+use Rattle.std.specs.Prelude.{Option, Some, None}
+use Rattle.std.proofs.lemmas.List.{length-map}
+use Rattle.cache_outside.specs.Listing.{Listing}
+use Rattle.cache_outside.specs.Sources.{SourceView}
+use Rattle.cache_outside.specs.Texts.{TextView}
+use Rattle.cache_outside.specs.Frames.{MakerView}
+use Rattle.cache_outside.specs.Sinks.{SinkView}
+use Rattle.cache_outside.specs.Clocks.{ClockView}
+use Rattle.run_setup.specs.declared.settings.RunSettings.{RunSettings}
+use Rattle.run_setup.specs.Settings.{in_limits}
+use Rattle.run_setup.specs.Words.{Command, Term, term, run, command, asks}
+use Rattle.mount_tool.specs.Replies.{usage_text}
+use Rattle.mount_tool.specs.Runs.{IsNoted, IsTermRun}
+use Rattle.mount_tool.specs.Calls.{World, world, OnlyWrote, IsScriptRun, CallEnds, IsCall, is_refused, refuses, taken_on}
+use Rattle.mount_tool.proofs.Usage.{only_refused}
+use Rattle.mount_tool.proofs.Accepted.{none_taken, term_taken, run_taken, term_untaken, run_untaken, threads_untaken, threads_refused}
+
+-- `usage` was written
+pub refused_call : (tells : Bool) (blobs : Listing) (words : List (List ℕ)) (sources : List SourceView) (text : TextView) (m : MakerView) (k l : SinkView) (c : ClockView) (status : ℕ)
+    → taken_on (length sources) (command words) ≡ None → IsNoted k l usage_text 2 status
+    → IsCall tells blobs words (world text m k c sources) (world text m l c sources) status
+refused_call tells blobs words sources text m k l c status is noted =
+    rw is (noted, record { text = refl; maker = refl; clock = refl; sources = refl })
+
+-- a reply of `term` was written, and the first source read
+term_here : (tells : Bool) (blobs : Listing) (words : List (List ℕ)) (a b : SourceView) (rest : List SourceView) (text : TextView) (m : MakerView) (k l : SinkView) (c : ClockView) (t : Term) (status : ℕ)
+    → command words ≡ Some (term t) → IsTermRun tells blobs t a.faults b.faults k l status
+    → IsCall tells blobs words (world text m k c (a ∷ rest)) (world text m l c (b ∷ rest)) status
+term_here tells blobs words a b rest text m k l c t status is h =
+    rw (term_taken (length (a ∷ rest)) (command words) t is (omega arith)) (h, refl, refl, refl)
+
+run_here : (tells : Bool) (blobs : Listing) (words : List (List ℕ)) (a b : SourceView) (rest : List SourceView) (text now : TextView) (m n : MakerView) (k l : SinkView) (c d : ClockView) (s : RunSettings) (status : ℕ)
+    → command words ≡ Some (run s) → asks (command words) ≡ false
+    → IsScriptRun tells blobs s (world text m k c (a ∷ rest)) (world now n l d (b ∷ rest)) status
+    → IsCall tells blobs words (world text m k c (a ∷ rest)) (world now n l d (b ∷ rest)) status
+run_here tells blobs words a b rest text now m n k l c d s status is alone h =
+    rw (run_taken (length (a ∷ rest)) (command words) s is alone (omega arith)) h
+
+pub term_call : {S : Type 0} (view : S → SourceView) (sources : List S) (a b : S) (tells : Bool) (blobs : Listing) (words : List (List ℕ)) (text : TextView) (m : MakerView) (k l : SinkView) (c : ClockView) (t : Term) (status : ℕ)
+    → 0 < length sources → a ≡ get_or sources 0 a
+    → command words ≡ Some (term t) → IsTermRun tells blobs t (view a).faults (view b).faults k l status
+    → IsCall tells blobs words (world text m k c (map view sources)) (world text m l c (map view (set sources 0 b))) status
+term_call view [] a b tells blobs words text m k l c t status some is asked h = absurd (omega (arith, some))
+term_call view (x ∷ xs) a b tells blobs words text m k l c t status some is asked h =
+    term_here tells blobs words (view x) (view b) (map view xs) text m k l c t status asked (subst (λ y. IsTermRun tells blobs t (view y).faults (view b).faults k l status) is h)
+
+pub run_call : {S : Type 0} (view : S → SourceView) (sources : List S) (a b : S) (tells : Bool) (blobs : Listing) (words : List (List ℕ)) (text now : TextView) (m n : MakerView) (k l : SinkView) (c d : ClockView) (s : RunSettings) (status : ℕ)
+    → 0 < length sources → a ≡ get_or sources 0 a
+    → command words ≡ Some (run s) → asks (command words) ≡ false
+    → ((rest : List SourceView) → IsScriptRun tells blobs s (world text m k c (view a ∷ rest)) (world now n l d (view b ∷ rest)) status)
+    → IsCall tells blobs words (world text m k c (map view sources)) (world now n l d (map view (set sources 0 b))) status
+run_call view [] a b tells blobs words text now m n k l c d s status some is asked alone h = absurd (omega (arith, some))
+run_call view (x ∷ xs) a b tells blobs words text now m n k l c d s status some is asked alone h =
+    run_here tells blobs words (view x) (view b) (map view xs) text now m n k l c d s status asked alone
+    (subst (λ y. IsScriptRun tells blobs s (world text m k c (view y ∷ map view xs)) (world now n l d (view b ∷ map view xs)) status) is (h (map view xs)))
+
+-- the first source is still the same
+pub same_identity : {S : Type 0} (view : S → SourceView) (sources : List S) (a b : S) → 0 < length sources → a ≡ get_or sources 0 a → (view b).identity ≡ (view a).identity
+    → map (λ s. (view s).identity) (set sources 0 b) ≡ map (λ s. (view s).identity) sources
+same_identity view [] a b some is same = absurd (omega (arith, some))
+same_identity view (x ∷ xs) a b some is same = ap (λ n. n ∷ map (λ s. (view s).identity) xs) (same ∙ ap (λ y. (view y).identity) is)
+
+-- status 2 comes only where the words are refused
+pub usage_of : {S : Type 0} (view : S → SourceView) (sources : List S) (tells : Bool) (blobs : Listing) (words : List (List ℕ)) (text : TextView) (m : MakerView) (k : SinkView) (c : ClockView) (y : World) (status : ℕ)
+    → IsCall tells blobs words (world text m k c (map view sources)) y status → status ≡ 2 → is_refused words (length sources) ≡ true
+usage_of view sources tells blobs words text m k c y status h two =
+    subst (λ n. refuses n (command words) ≡ true) (length-map sources view)
+    (only_refused tells blobs (length (map view sources)) (command words) (world text m k c (map view sources)) y status h two)

@@ -1,0 +1,70 @@
+-- How the run of a script ends, by how its steps end.
+use Rattle.std.proofs.Common.{◌≡◌, ℕ, List, ◌∷◌, ◌&&◌, Bool, true, refl, ap, subst}
+use Rattle.std.specs.Prelude.{Err, Ok, IsTrue}
+use Rattle.region_ranges.specs.declared.keys.Config.{Config}
+use Rattle.cache_outside.specs.Listing.{Listing}
+use Rattle.cache_outside.specs.Sources.{SourceView}
+use Rattle.cache_outside.specs.Texts.{TextView}
+use Rattle.cache_outside.specs.Frames.{MakerView}
+use Rattle.cache_outside.specs.Sinks.{SinkView}
+use Rattle.cache_outside.specs.Clocks.{ClockView}
+use Rattle.mount_script.specs.Scripts.{script, IsScript}
+use Rattle.mount_script.specs.declared.command.Line.{Line}
+use Rattle.mount_script.specs.declared.error.ScriptError.{ScriptError}
+use Rattle.mount_script.specs.declared.error.ScriptError.TheVariants as script_error
+use Rattle.run_setup.specs.declared.settings.RunSettings.{RunSettings}
+use Rattle.run_setup.specs.Texts.{IsRead}
+use Rattle.run_setup.specs.Settings.{config_of}
+use Rattle.script_run.specs.Blocks.{alone}
+use Rattle.script_run.specs.Counters.{CoreNumbers}
+use Rattle.script_run.specs.Runs.{Outside, outside, IsRun}
+use Rattle.script_run.specs.declared.ended.Ended.{Ended}
+use Rattle.mount_tool.specs.Replies.{run_status}
+use Rattle.mount_tool.specs.Calls.{World, world, unread, no_script, no_frame, no_room, ran, IsUnrun, IsScriptText, IsScriptRun}
+use Rattle.mount_tool.specs.Steps.{IsRefusal, BlocksEnding, without_frames, without_room, over, BlocksEnd, BlocksEnded}
+
+unrun : (text now : TextView) (m n : MakerView) (k l : SinkView) (c d : ClockView) (a b : SourceView) (rest : List SourceView)
+    → outside b l d ≡ outside a k c → IsUnrun (world text m k c (a ∷ rest)) (world now n l d (b ∷ rest))
+unrun text now m n k l c d a b rest same = record {
+  sink = ap (λ (o : Outside). o.sink) same;
+  clock = ap (λ (o : Outside). o.clock) same;
+  sources = ap (λ (o : Outside). o.source ∷ rest) same;
+}
+
+ends_by : (tells : Bool) (blobs : Listing) (s : RunSettings) (text now : TextView) (m n : MakerView) (k l : SinkView) (c d : ClockView) (a b : SourceView) (rest : List SourceView)
+    (t : List ℕ) (blocks : List (List Line)) (status : ℕ) → IsScriptText (world text m k c (a ∷ rest)) t blocks
+    → (ending : BlocksEnding) → BlocksEnd tells blobs s blocks m n (outside a k c) (outside b l d) ending status
+    → IsScriptRun tells blobs s (world text m k c (a ∷ rest)) (world now n l d (b ∷ rest)) status
+ends_by tells blobs s text now m n k l c d a b rest t blocks status is without_frames h =
+    record { ending = no_frame t blocks; ends = (is, h.0, h.1, unrun text now m n k l c d a b rest h.2) }
+ends_by tells blobs s text now m n k l c d a b rest t blocks status is without_room h =
+    record { ending = no_room; ends = (h.0, unrun text now m n k l c d a b rest h.1) }
+ends_by tells blobs s text now m n k l c d a b rest t blocks status is (over told numbers ended) h =
+    record { ending = ran t blocks told numbers ended; ends = (is, h.0, h.1, h.2) }
+
+-- blocks that ran over frames of which it is known whether they tell
+pub over_frames : (tells : Bool) (blobs : Listing) (s : RunSettings) (blocks : List (List Line)) (m n : MakerView) (x y : Outside) (told : Bool) (numbers : CoreNumbers) (ended : Ended) (status : ℕ) (config : Config)
+    → config ≡ config_of s → status ≡ run_status ended → (IsTrue m.tells → told ≡ true)
+    → IsRun (alone (tells && told) blobs config.regions) blocks x y numbers ended → BlocksEnded tells blobs s blocks m n x y status
+over_frames tells blobs s blocks m n x y told numbers ended status config is own tell h = record {
+  ending = over told numbers ended;
+  ends = (own, tell, subst (λ (k : Config). IsRun (alone (tells && told) blobs k.regions) blocks x y numbers ended) is h);
+}
+
+-- a script that was read, and how its blocks ended
+pub run_of_blocks : (tells : Bool) (blobs : Listing) (s : RunSettings) (text now : TextView) (m n : MakerView) (k l : SinkView) (c d : ClockView) (a b : SourceView) (rest : List SourceView)
+    (t : List ℕ) (blocks : List (List Line)) (status : ℕ) → IsScriptText (world text m k c (a ∷ rest)) t blocks
+    → BlocksEnded tells blobs s blocks m n (outside a k c) (outside b l d) status
+    → IsScriptRun tells blobs s (world text m k c (a ∷ rest)) (world now n l d (b ∷ rest)) status
+run_of_blocks tells blobs s text now m n k l c d a b rest t blocks status is h = ends_by tells blobs s text now m n k l c d a b rest t blocks status is h.ending h.ends
+
+-- a text that is no script
+pub run_of_refusal : (tells : Bool) (blobs : Listing) (s : RunSettings) (text now : TextView) (m : MakerView) (k l : SinkView) (c : ClockView) (sources : List SourceView)
+    (t : List ℕ) (e : ScriptError) (status : ℕ) → IsRead text.left t → IsScript (Err e) (script t) → IsRefusal e k l status
+    → IsScriptRun tells blobs s (world text m k c sources) (world now m l c sources) status
+run_of_refusal tells blobs s text now m k l c sources t script_error.TooLong status read is h =
+    record { ending = no_script t script_error.TooLong; ends = (read, is, h, refl, refl) }
+run_of_refusal tells blobs s text now m k l c sources t (script_error.BadLine line) status read is h =
+    record { ending = no_script t (script_error.BadLine line); ends = (read, is, h, refl, refl) }
+run_of_refusal tells blobs s text now m k l c sources t script_error.NoMemory status read is h =
+    record { ending = no_room; ends = (h.0, record { sink = h.1; clock = refl; sources = refl }) }
