@@ -46,7 +46,8 @@ pub(crate) fn core_line<A: Archive + Drop, F: Frame + Drop, S: BlobSource<A>>(
     ensures idle { IsIdle core.new }
     ensures source { SourceLater (S.view source.old) (S.view source.new) (result.reply ≡ reply.Fault) }
     ensures does { LineDoes (cached A.tells A.blobs config.now) now command.now
-        (mounted (used_name command.now) roster.now) result.reply result.report (seen (S.view source.old) core.old) (seen (S.view source.new) core.new) }
+        (mounted (used_name command.now) roster.now) result.reply result.report (seen (S.view source.old) core.old)
+        (seen (S.view source.new) core.new) }
 {
     let mut door = core.door(0);
     run_line(alloc, &mut door, source, roster, config, command, now)
