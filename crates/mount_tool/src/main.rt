@@ -1,5 +1,5 @@
-// `mount_tool FOLDER CACHE WORDS..`: runs scripts of mounts, searches, fetches and reads over an archive whose blobs are
-// the files of a folder. The words and what is written stand in docs/FORMATS.md.
+// `mount_tool FOLDER CACHE WORDS..`: runs scripts of mounts, searches, fetches and reads over an archive whose blobs
+// are the files of a folder. The words and what is written stand in docs/FORMATS.md.
 #![tactic(auto)]
 
 mod note;

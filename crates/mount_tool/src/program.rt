@@ -1,12 +1,10 @@
-// The program over a runtime: its arguments, the sources over a folder, and what it writes where it has none.
+// The program over the host: its arguments, the sources over a folder, and what it writes where it has none.
 use crate::note::note;
 use crate::run::mount_tool;
 use cache_frame::MemFrames;
 use cache_outside::{FolderSource, Sink, StdClock, StdText, Untold};
 use std::rt::{Env, Files};
-use std::sync::Wait;
-use std::thread::Threads;
-use std::{env, io, time};
+use std::{env, io};
 
 /// How many sources are made over the folder.
 const SOURCES: usize = 8;
@@ -43,13 +41,7 @@ fn refuse<K: Sink>(sink: &mut K, error: &io::Error, line: &str, status: u8) -> u
 /// Runs the program over its arguments, `FOLDER CACHE WORDS..`, with the script from the standard input and frames in
 /// memory, and gives its status. Before the words are looked at, fewer than two arguments or another cache than `-` are
 /// `usage` with 2, and a folder that cannot be listed is `folder` with 7.
-pub(crate) fn run<
-    Rt: Files + Input + time::Clock + Threads + Wait + Send + Sync + AllocGlobal + Clone + Drop,
-    K: Sink,
->(rt: &Rt, arguments: &[String], sink: &mut K) -> u8
-where
-    Rt::File: Send,
-{
+pub(crate) fn run<K: Sink>(rt: &HostRuntime, arguments: &[String], sink: &mut K) -> u8 {
     if arguments.len() < 2 || arguments[1].as_str() != "-" {
         return note(sink, "usage\n", 2);
     }
@@ -66,7 +58,7 @@ where
     let mut script = StdText::new(input);
     let mut clock = StdClock::new(ticks);
     let mut frames = MemFrames::new(rt.alloc(), Vec::new(rt.alloc()));
-    let outcome = mount_tool::<Rt, Untold, _, _, _, _, _>(
+    let outcome = mount_tool::<HostRuntime, Untold, _, _, _, _, _>(
         rt,
         rt.alloc(),
         &arguments[2..],
@@ -80,23 +72,7 @@ where
 }
 
 /// Runs the program over the arguments that it was started with.
-pub(crate) fn start<
-    Rt: Env
-        + Files
-        + Input
-        + time::Clock
-        + Threads
-        + Wait
-        + Send
-        + Sync
-        + AllocGlobal
-        + Clone
-        + Drop,
-    K: Sink,
->(rt: &Rt, sink: &mut K) -> u8
-where
-    Rt::File: Send,
-{
+pub(crate) fn start<K: Sink>(rt: &HostRuntime, sink: &mut K) -> u8 {
     match arguments(rt) {
         Ok(arguments) => run(rt, &arguments, sink),
         Err(e) => refuse(sink, &e, "usage\n", 2),

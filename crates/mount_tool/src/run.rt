@@ -49,7 +49,8 @@ where
         result.status }
 
     // The sources come back in number and order, and only the first one was read.
-    ensures sources { map (λ s. (S.view s).identity) result.sources.items ≡ map (λ s. (S.view s).identity) sources.items }
+    ensures sources { map (λ s. (S.view s).identity) result.sources.items
+        ≡ map (λ s. (S.view s).identity) sources.items }
     ensures others { drop 1 result.sources.items ≡ drop 1 sources.items }
 {
     let Some(asked) = asked_of(words) else {
@@ -102,7 +103,8 @@ where
     ensures usage { result.status ≡ 2 → is_refused (texts words.now) (length sources.items) ≡ true }
 
     // The sources come back in number and order, and only the first one was read.
-    ensures sources { map (λ s. (S.view s).identity) result.sources.items ≡ map (λ s. (S.view s).identity) sources.items }
+    ensures sources { map (λ s. (S.view s).identity) result.sources.items
+        ≡ map (λ s. (S.view s).identity) sources.items }
     ensures others { drop 1 result.sources.items ≡ drop 1 sources.items }
 {
     answer::<A, S, T, K, C, M>(alloc, words, script, sources, frames, sink, clock)
@@ -155,7 +157,8 @@ where
     ensures usage { result.status ≡ 2 → is_refused (texts words.now) (length sources.items) ≡ true }
 
     // The sources come back in number and order, and only the first one was read.
-    ensures sources { map (λ s. (S.view s).identity) result.sources.items ≡ map (λ s. (S.view s).identity) sources.items }
+    ensures sources { map (λ s. (S.view s).identity) result.sources.items
+        ≡ map (λ s. (S.view s).identity) sources.items }
     ensures others { drop 1 result.sources.items ≡ drop 1 sources.items }
 {
     let _ = rt;

@@ -21,7 +21,8 @@ where
     ensures count { IfOk result (λ v. length v.items ≡ config.now.regions) }
     ensures sizes { IfOk result (λ v. All (λ f. (M.F.view f).size ≡ config.now.region) v.items) }
     ensures tell { IsTrue (M.view maker.old).tells → IfOk result (λ v. All (λ f. IsTrue (M.F.view f).tells) v.items) }
-    ensures steady { IsTrue (M.view maker.old).steady → IfOk result (λ v. All (λ f. IsTrue (M.F.view f).steady) v.items) }
+    ensures steady { IsTrue (M.view maker.old).steady
+        → IfOk result (λ v. All (λ f. IsTrue (M.F.view f).steady) v.items) }
     ensures cause { HasCause (M.view maker.old).faults (M.view maker.new).faults result }
     ensures same_tells { (M.view maker.new).tells ≡ (M.view maker.old).tells }
     ensures same_steady { (M.view maker.new).steady ≡ (M.view maker.old).steady }
