@@ -9,7 +9,8 @@ mod script;
 mod search;
 mod term;
 
-use cache_outside::StdSink;
+use cache_outside::{StdSink, Untold};
+use program::Handed;
 pub use run::{Outcome, mount_alone, mount_tool};
 pub use run_setup::asks_threads;
 
@@ -23,5 +24,29 @@ fn main(rt: HostRuntime) -> ExitCode {
         return ExitCode::from(6);
     };
     let mut sink = StdSink::new(own);
-    ExitCode::from(program::start(&rt, &mut sink))
+    let arguments = match program::start(&rt, &mut sink) {
+        Ok(arguments) => arguments,
+        Err(status) => return ExitCode::from(status),
+    };
+    let handed = match program::prepare(&rt, &arguments, &mut sink) {
+        Ok(handed) => handed,
+        Err(status) => return ExitCode::from(status),
+    };
+    let Handed {
+        mut script,
+        sources,
+        mut frames,
+        mut clock,
+    } = handed;
+    let outcome = mount_tool::<_, Untold, _, _, _, _, _>(
+        &rt,
+        rt.alloc(),
+        &arguments[2..],
+        &mut script,
+        sources,
+        &mut frames,
+        &mut sink,
+        &mut clock,
+    );
+    ExitCode::from(outcome.status)
 }

@@ -1,11 +1,10 @@
 // The program over a runtime: its arguments, the sources over a folder, and what it writes where it has none.
+ghost use Rattle.std.specs.Prelude.{◌≤◌, IfOk, length};
+
 use crate::note::note;
-use crate::run::mount_tool;
 use cache_frame::MemFrames;
-use cache_outside::{FolderSource, Sink, StdClock, StdText, Untold};
+use cache_outside::{FolderSource, Sink, StdClock, StdText};
 use std::rt::{Env, Files};
-use std::sync::Wait;
-use std::thread::Threads;
 use std::{env, io, time};
 
 /// How many sources are made over the folder.
@@ -40,65 +39,52 @@ fn refuse<K: Sink>(sink: &mut K, error: &io::Error, line: &str, status: u8) -> u
     note(sink, line, status)
 }
 
-/// Runs the program over its arguments, `FOLDER CACHE WORDS..`, with the script from the standard input and frames in
-/// memory, and gives its status. Before the words are looked at, fewer than two arguments or another cache than `-` are
-/// `usage` with 2, and a folder that cannot be listed is `folder` with 7.
-pub(crate) fn run<
-    Rt: Files + Input + time::Clock + Threads + Wait + Send + Sync + AllocGlobal + Clone + Drop,
-    K: Sink,
->(rt: &Rt, arguments: &[String], sink: &mut K) -> u8
-where
-    Rt::File: Send,
-{
-    if arguments.len() < 2 || arguments[1].as_str() != "-" {
-        return note(sink, "usage\n", 2);
-    }
-    let Ok(input) = rt.clone() else {
-        return 6;
-    };
-    let Ok(ticks) = rt.clone() else {
-        return 6;
-    };
-    let sources = match open_sources(rt, arguments[0].as_str()) {
-        Ok(sources) => sources,
-        Err(e) => return refuse(sink, &e, "folder\n", 7),
-    };
-    let mut script = StdText::new(input);
-    let mut clock = StdClock::new(ticks);
-    let mut frames = MemFrames::new(rt.alloc(), Vec::new(rt.alloc()));
-    let outcome = mount_tool::<Rt, Untold, _, _, _, _, _>(
-        rt,
-        rt.alloc(),
-        &arguments[2..],
-        &mut script,
-        sources,
-        &mut frames,
-        sink,
-        &mut clock,
-    );
-    outcome.status
+/// What the top call is handed beside its words and the sink.
+#[derive(Drop)]
+pub(crate) struct Handed<Rt: Files + Input + time::Clock + Drop> {
+    pub(crate) script: StdText<Rt>,
+    pub(crate) sources: Vec<FolderSource<Rt>>,
+    pub(crate) frames: MemFrames,
+    pub(crate) clock: StdClock<Rt>,
 }
 
-/// Runs the program over the arguments that it was started with.
-pub(crate) fn start<
-    Rt: Env
-        + Files
-        + Input
-        + time::Clock
-        + Threads
-        + Wait
-        + Send
-        + Sync
-        + AllocGlobal
-        + Clone
-        + Drop,
-    K: Sink,
->(rt: &Rt, sink: &mut K) -> u8
-where
-    Rt::File: Send,
+/// What the top call is handed for the arguments `FOLDER CACHE WORDS..`: sources over the folder, the script from the
+/// standard input, and frames in memory. Or the status, where it is not called: fewer than two arguments or another
+/// cache than `-` are `usage` with 2, and a folder that cannot be listed is `folder` with 7.
+pub(crate) fn prepare<Rt: Files + Input + time::Clock + AllocGlobal + Clone + Drop, K: Sink>(
+    rt: &Rt,
+    arguments: &[String],
+    sink: &mut K,
+) -> Result<Handed<Rt>, u8>
+    ensures { IfOk result (λ handed. 2 ≤ length arguments.now) }
 {
+    if arguments.len() < 2 || arguments[1].as_str() != "-" {
+        return Err(note(sink, "usage\n", 2));
+    }
+    let Ok(input) = rt.clone() else {
+        return Err(6);
+    };
+    let Ok(ticks) = rt.clone() else {
+        return Err(6);
+    };
+    match open_sources(rt, arguments[0].as_str()) {
+        Ok(sources) => Ok(Handed {
+            script: StdText::new(input),
+            sources,
+            frames: MemFrames::new(rt.alloc(), Vec::new(rt.alloc())),
+            clock: StdClock::new(ticks),
+        }),
+        Err(e) => Err(refuse(sink, &e, "folder\n", 7)),
+    }
+}
+
+/// The arguments that the program was started with, or the status where they cannot be read.
+pub(crate) fn start<Rt: Env + AllocGlobal, K: Sink>(
+    rt: &Rt,
+    sink: &mut K,
+) -> Result<Vec<String>, u8> {
     match arguments(rt) {
-        Ok(arguments) => run(rt, &arguments, sink),
-        Err(e) => refuse(sink, &e, "usage\n", 2),
+        Ok(arguments) => Ok(arguments),
+        Err(e) => Err(refuse(sink, &e, "usage\n", 2)),
     }
 }

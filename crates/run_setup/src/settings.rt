@@ -2,7 +2,8 @@
 ghost use Rattle.std.specs.Prelude.{◌≡◌, option_map, IfSome, true};
 ghost use Rattle.std.specs.List.{list_all};
 ghost use Rattle.region_ranges.specs.Keys.{IsConfig};
-ghost use Rattle.run_setup.specs.Settings.{behind_key, is_setting, values, at_most_one, in_limits, numbers, settings, config_of};
+ghost use Rattle.run_setup.specs.Settings.{behind_key, is_setting, values, at_most_one, numbers, settings};
+ghost use Rattle.run_setup.specs.Settings.{in_limits, config_of};
 ghost use Rattle.run_setup.specs.Words.{texts};
 
 use crate::number::number_of;

@@ -1,7 +1,8 @@
 // The program over a folder: what it writes and answers.
-use crate::program::run;
+use crate::mount_tool;
+use crate::program::{Handed, prepare};
 use crate::tests::words_of;
-use cache_outside::MemSink;
+use cache_outside::{MemSink, Untold};
 use std::fs;
 use std::test::Fail;
 
@@ -50,7 +51,29 @@ fn a_folder(rt: HostRuntime) -> Result<(), Fail> {
     for (words, wanted, status) in rows {
         let mut sink = MemSink::new(alloc, 5, Vec::new(alloc));
         let arguments = words_of(alloc, words)?;
-        assert_eq!(rt; run(&rt, &arguments, &mut sink), status);
+        let answer = match prepare(&rt, &arguments, &mut sink) {
+            Ok(handed) => {
+                let Handed {
+                    mut script,
+                    sources,
+                    mut frames,
+                    mut clock,
+                } = handed;
+                let outcome = mount_tool::<_, Untold, _, _, _, _, _>(
+                    &rt,
+                    alloc,
+                    &arguments[2..],
+                    &mut script,
+                    sources,
+                    &mut frames,
+                    &mut sink,
+                    &mut clock,
+                );
+                outcome.status
+            }
+            Err(status) => status,
+        };
+        assert_eq!(rt; answer, status);
         assert_eq!(rt; sink.written(), wanted.as_bytes());
     }
     fs::remove_dir_all(&rt, "sample")?;
