@@ -104,4 +104,5 @@ def main():
         print("least: %.3f s of processor" % least)
 
 
-main()
+if __name__ == "__main__":
+    main()
