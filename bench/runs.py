@@ -9,6 +9,8 @@ Prints the processor seconds and the greatest memory (at least that of this scri
   taken off;
 - 256 MiB that are read in order, 1 MiB a read, without a hit, and the million bytes a second.
 
+Each read is a block of its own, since the replies of a block are kept until it ends.
+
 Every run is made RUNS times, and the least is printed. The script `mount_tool` at the top of the repository builds the
 program, and the runs start what it built, or the program that is named.
 
@@ -53,7 +55,8 @@ def searches(program, runs):
 
 def write_file(folder, name, size):
     with open(os.path.join(folder, "__b"), "wb") as blob:
-        blob.write(bytes(range(256)) * (size // 256))
+        for _ in range(size // MIB):
+            blob.write(bytes(range(256)) * 4096)
     manifest = {"version": 1, "files": [{"name": "__b", "physical_name": name, "length": size}], "segments": []}
     with open(os.path.join(folder, "mount-bench"), "w") as blob:
         json.dump(manifest, blob)
@@ -62,8 +65,8 @@ def write_file(folder, name, size):
 def hits(program, runs):
     with tempfile.TemporaryDirectory() as folder:
         write_file(folder, "f", 16 * MIB)
-        warm = "mount y mount-bench\n" + "".join("read y f %d 1048576\n" % (i * MIB) for i in range(16))
-        reads = "".join("read y f %d 4096\n" % (i * 4096 % (16 * MIB)) for i in range(6000))
+        warm = "mount y mount-bench\n" + "".join("read y f %d 1048576\n--\n" % (i * MIB) for i in range(16))
+        reads = "".join("read y f %d 4096\n--\n" % (i * 4096 % (16 * MIB)) for i in range(6000))
         words = [program, folder, "-", "run"]
         before, _ = measured(words, warm.encode(), runs)
         after, memory = measured(words, (warm + reads).encode(), runs)
