@@ -1,0 +1,9 @@
+//! The run of a script by several workers, through one cache that they share.
+#![tactic(auto)]
+
+mod block;
+mod gate;
+mod job;
+mod lines;
+
+pub use gate::{Gate, OpenGate};
