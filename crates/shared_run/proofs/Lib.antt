@@ -1,3 +1,4 @@
 mod Shares
 mod LinesDone
 mod Gathered
+mod Deals

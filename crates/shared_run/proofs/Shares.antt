@@ -52,6 +52,10 @@ module _ {X : Type 0} (w i : ℕ) where
   pub share_more : (k : ℕ) (xs : List X) (x : X) → k < length xs → x ≡ get_or xs k x → (k % w == i) ≡ true → share w i 0 (take (k + 1) xs) ≡ share w i 0 (take k xs) ++ x ∷ []
   share_more k xs x h at is = next_item k xs x h true is ∙ ap (λ (y : X). share w i 0 (take k xs) ++ y ∷ []) (sym at)
 
+  pub longer : (k : ℕ) (xs : List X) → k < length xs → (k % w == i) ≡ true → length (share w i 0 (take (k + 1) xs)) ≡ length (share w i 0 (take k xs)) + 1
+  longer k [] h is = absurd (omega (arith, h))
+  longer k (x ∷ xs) h is = ap length (next_item k (x ∷ xs) x h true is) ∙ length-append (share w i 0 (take k (x ∷ xs))) (get_or (x ∷ xs) k x ∷ [])
+
   -- an item that is another's
   pub share_same : (k : ℕ) (xs : List X) → k < length xs → (k % w == i) ≡ false → share w i 0 (take (k + 1) xs) ≡ share w i 0 (take k xs)
   share_same k [] h is = absurd (omega (arith, h))

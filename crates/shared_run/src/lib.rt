@@ -2,6 +2,7 @@
 #![tactic(auto)]
 
 mod block;
+mod deal;
 mod gate;
 mod job;
 mod lines;
