@@ -1,4 +1,5 @@
 mod Shares
 mod LinesDone
-mod Gathered
+mod Parts
 mod Deals
+mod Joins

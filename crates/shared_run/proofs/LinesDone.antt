@@ -108,7 +108,7 @@ grew_on a b c m n h k = record {
 pub grew_by : (a b n : ℕ) → Rises a b n → Grew a b n
 grew_by a b n h = let p = h.value in record { later = h.later; most = omega (arith, p); whole = λ below. omega (arith, p, below) }
 
-same_grew : (a b n : ℕ) → b ≡ a → n ≡ 0 → Grew a b n
+pub same_grew : (a b n : ℕ) → b ≡ a → n ≡ 0 → Grew a b n
 same_grew a b n e z = record { later = omega (arith, e); most = omega (arith, e); whole = λ below. omega (arith, e, z) }
 
 -- ---- what was taken
@@ -315,7 +315,7 @@ module _ (tells : Bool) (blobs : Listing) (config : Config) (r : RosterView) (no
   line_did ls xs l x p shared h tell grown told mark kind source does =
       let w = line_works l.command (mounted (used_name l.command) r) x shared refl kind does in
       let own : IsAnswer (tells && p.door.frames_tell) (expected_reply blobs (mounts_of r) l.command) x =
-          subst (λ (b : Bool). IsAnswer (tells && b) (expected_reply blobs (mounts_of r) l.command) x) tell told in
+      subst (λ (b : Bool). IsAnswer (tells && b) (expected_reply blobs (mounts_of r) l.command) x) tell told in
       let f = z.door.seen_gone in
       record {
         answered = answered_more (tells && p.door.frames_tell) blobs r f ls xs l x (answered_grown (tells && p.door.frames_tell) blobs r y.door.seen_gone f ls xs grown h.answered)

@@ -68,7 +68,7 @@ module _ {X : Type 0} (w i : ℕ) where
       let all : share w i 0 (take (k + 1) xs ++ drop (k + 1) xs) ≡ share w i 0 (take (k + 1) xs) ++ share w i (0 + length (take (k + 1) xs)) (drop (k + 1) xs) = share_append 0 (take (k + 1) xs) (drop (k + 1) xs) in
       let whole : take (k + 1) xs ++ drop (k + 1) xs ≡ xs = take-append-drop (k + 1) xs in
       let n : length (share w i 0 xs) ≡ length (share w i 0 (take (k + 1) xs)) + length (share w i (0 + length (take (k + 1) xs)) (drop (k + 1) xs)) =
-          ap (λ (ys : List X). length (share w i 0 ys)) (sym whole) ∙ ap length all ∙ length-append (share w i 0 (take (k + 1) xs)) (share w i (0 + length (take (k + 1) xs)) (drop (k + 1) xs)) in
+      ap (λ (ys : List X). length (share w i 0 ys)) (sym whole) ∙ ap length all ∙ length-append (share w i 0 (take (k + 1) xs)) (share w i (0 + length (take (k + 1) xs)) (drop (k + 1) xs)) in
       let m : length (share w i 0 (take (k + 1) xs)) ≡ length (share w i 0 (take k xs)) + 1 = ap length front ∙ length-append (share w i 0 (take k xs)) (x ∷ []) in
       omega (arith, n, m)
 

@@ -47,15 +47,20 @@ fn run_jobs<
     ensures count { length jobs.new ≡ length jobs.old }
     ensures ran { (k : ℕ) (d : _) → k < length jobs.old →
         JobRan (cached A.tells A.blobs config.now) cache.now roster.now (share (length jobs.old) k 0 block.now)
-            (slice_index_or jobs.new k d).replies.items (S.view (slice_index_or jobs.old k d).source)
-            (S.view (slice_index_or jobs.new k d).source) (slice_index_or jobs.old k d).pass
-            (slice_index_or jobs.new k d).pass }
+        (slice_index_or jobs.new k d).replies.items (S.view (slice_index_or jobs.old k d).source)
+        (S.view (slice_index_or jobs.new k d).source) (slice_index_or jobs.old k d).pass
+        (slice_index_or jobs.new k d).pass }
     ensures ready { (k : ℕ) (d : _) → k < length jobs.old → IsReady cache.now (slice_index_or jobs.new k d).pass }
 {
     let workers = jobs.len();
-    thread::for_each_mut(rt, jobs, workers, &|worker, job| {
-        work(
-            rt, alloc, cache, roster, config, block, worker, workers, now, gate, job,
-        )
-    });
+    thread::for_each_mut(
+        rt,
+        jobs,
+        workers,
+        &|worker, job| {
+            work(
+                rt, alloc, cache, roster, config, block, worker, workers, now, gate, job,
+            )
+        },
+    );
 }

@@ -4,6 +4,7 @@
 mod block;
 mod deal;
 mod gate;
+mod gather;
 mod job;
 mod lines;
 

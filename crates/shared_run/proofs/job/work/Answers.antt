@@ -23,10 +23,10 @@ returns-clause-ran g c =
     let last = c.run_share.new.door in
     let start : view_at first.cache.now.about first.pass ≡ view_at about c.in-Some.pass = ap₂ view_at (ap (λ (k : _). k.now.about) c.new-door.ensures.cache) c.new-door.ensures.pass in
     let end : view_at last.cache.now.about last.pass ≡ view_at about c.into_pass.result =
-        ap₂ view_at (ap (λ (k : _). k.now.about) (told.stays.0 ∙ c.new-door.ensures.cache)) (sym c.into_pass.ensures.pass) in
+    ap₂ view_at (ap (λ (k : _). k.now.about) (told.stays.0 ∙ c.new-door.ensures.cache)) (sym c.into_pass.ensures.pass) in
     let did : LinesDid e r ls xs (moment a (view_at about c.in-Some.pass)) (moment b (view_at about c.into_pass.result)) =
-        subst (λ (x : DoorView). LinesDid e r ls xs (moment a x) (moment b (view_at about c.into_pass.result))) start
-        (subst (λ (x : DoorView). LinesDid e r ls xs (moment a (view_at first.cache.now.about first.pass)) (moment b x)) end told.did) in
+    subst (λ (x : DoorView). LinesDid e r ls xs (moment a x) (moment b (view_at about c.into_pass.result))) start
+    (subst (λ (x : DoorView). LinesDid e r ls xs (moment a (view_at first.cache.now.about first.pass)) (moment b x)) end told.did) in
     let was : c.args.job.now.pass ≡ Some c.in-Some.pass = sym c.take.ensures.value ∙ c.in-Some.is in
     subst (λ (o : Option PassView). JobRan e c.args.cache.now r ls xs a b o (Some c.into_pass.result)) (sym was) (record {
       did = did;

@@ -24,7 +24,7 @@ faults_are w i k (x ∷ xs) = by_cases (faults_are w i (k + 1) xs) (k % w == i) 
   where
     by_cases : faults_of w i (k + 1) xs ≡ count_by is_fault (share w i (k + 1) xs) → (b : Bool) → (k % w == i) ≡ b → faults_of w i k (x ∷ xs) ≡ count_by is_fault (share w i k (x ∷ xs))
     by_cases h true e = rw (e, count_front is_fault x (share w i (k + 1) xs)) (ap (λ (n : ℕ). cond (is_fault x) 1 0 + n) h)
-    by_cases h false e = rw e h
+    by_cases h false e = rw e (omega (arith, h))
 
 module _ (tells : Bool) (blobs : Listing) (r : RosterView) (seen : ℕ → Bool) (w : ℕ) (some : 0 < w) where
   -- each worker's lines have their replies, so all lines have theirs
