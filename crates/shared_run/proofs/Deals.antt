@@ -1,5 +1,5 @@
 -- What is dealt, one worker more.
-use Rattle.std.proofs.Common.{◌≡◌, ◌∙◌, ◌≤◌, ◌+◌, ◌-◌, ℕ, zero, suc, take, drop, map, add-one, List, [], ◌∷◌, ◌++◌, length, ap, sym, subst, refl, arith, add-zero}
+use Rattle.std.proofs.Common.{◌≡◌, ◌∙◌, ◌≤◌, ◌+◌, ◌-◌, ℕ, zero, suc, take, drop, map, add-one, List, [], ◌∷◌, ◌++◌, length, ap, sym, subst, arith}
 use Rattle.std.specs.Prelude.{Vec, vec_len, vec_capacity, Option, Some, None}
 use Rattle.std.proofs.lemmas.List.{map-append}
 use Rattle.cache_table.specs.Views.{CacheView, PassView}

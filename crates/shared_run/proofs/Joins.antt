@@ -4,7 +4,7 @@ use Rattle.std.specs.Prelude.{Option, Some, None}
 use Rattle.std.proofs.lemmas.List.{append_assoc, append-nil}
 use Rattle.cache_reader.specs.Reports.{Grew}
 use Rattle.cache_table.specs.Views.{PassView}
-use Rattle.shared_run.specs.Gathered.{Joined, JoinedWith, sum_of, lists_of, JoinedAll}
+use Rattle.shared_run.specs.Gathered.{JoinedWith, sum_of, lists_of, JoinedAll}
 use Rattle.shared_run.proofs.LinesDone.{grew_on, grew_by, same_grew}
 
 sum_more : (f : PassView → ℕ) (os : List (Option PassView)) (q : PassView) → sum_of f (os ++ Some q ∷ []) ≡ sum_of f os + f q

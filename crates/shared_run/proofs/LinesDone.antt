@@ -1,9 +1,9 @@
 -- A worker's lines, one line more.
-use Rattle.std.proofs.Common.{◌≡◌, ◌∙◌, ◌<◌, ◌≤◌, ◌+◌, ◌*◌, ◌-◌, ◌^◌, ℕ, zero, suc, Bool, true, false, cond, List, [], ◌∷◌, ◌++◌, length, min, sym, subst, ap, ap₂, refl, inl, inr, arith}
-use Rattle.std.specs.Prelude.{IsTrue, Option, Some, None, ◌||◌, ◌&&◌, ◌⊎◌, ◌==◌, count_by, codes, take}
+use Rattle.std.proofs.Common.{◌≡◌, ◌∙◌, ◌≤◌, ◌+◌, ◌*◌, ◌-◌, ◌^◌, ℕ, Bool, true, false, cond, List, [], ◌∷◌, ◌++◌, length, min, sym, subst, ap, refl, inl, inr, arith}
+use Rattle.std.specs.Prelude.{IsTrue, Option, Some, None, ◌||◌, ◌&&◌, ◌==◌, count_by, codes}
 use Rattle.std.specs.List.{list_any}
 use Rattle.std.proofs.Math.Nat.{le_refl, le_trans}
-use Rattle.std.proofs.lemmas.List.{length-append, append-nil}
+use Rattle.std.proofs.lemmas.List.{length-append}
 use Rattle.std.proofs.lemmas.List.Folds.{list_any-append}
 use Rattle.std.proofs.lemmas.List.Sums.{sum_by_push}
 use Rattle.byte_text.specs.Counts.{Rose}
@@ -14,9 +14,9 @@ use Rattle.blob_parts.specs.Takes.{SourceLater, Took}
 use Rattle.blob_parts.specs.Reading.{took_none, took_both}
 use Rattle.index_mounts.specs.Rosters.{MountView, RosterView, mounted}
 use Rattle.cache_door.specs.declared.work.Work.{Work}
-use Rattle.cache_door.specs.Doors.{DoorView, Grown, Rises, Works, no_work, with_mount}
+use Rattle.cache_door.specs.Doors.{Grown, Rises, Works, no_work, with_mount}
 use Rattle.cache_reader.specs.declared.report.Report.{Report}
-use Rattle.cache_reader.specs.Bounds.{Bounded, Worked}
+use Rattle.cache_reader.specs.Bounds.{Bounded}
 use Rattle.cache_reader.specs.Reports.{Grew}
 use Rattle.cache_reader.specs.Going.{Moment}
 use Rattle.mount_script.specs.declared.command.Command.{Command}
@@ -28,8 +28,8 @@ use Rattle.shard_replies.specs.Answers.{HasHits, HasFields, HasBytes}
 use Rattle.shard_replies.specs.ExpectedReplies.{expected_reply, used_name, refused}
 use Rattle.script_run.specs.Mounting.{mounts_of}
 use Rattle.script_run.specs.Allowed.{reads_files, is_fault, is_memory, Bears}
-use Rattle.script_run.specs.Lines.{is_shared, Cached, cached, reading, IsAnswer, IsMarked, IsGone, IsOrNoMemory, HasKind, FilesKind, FilesRead, DoorDoes, LineDoes}
-use Rattle.shared_run.specs.Workers.{SeenGone, MarkSeen, LineAnswered, AllAnswered, is_decayed, is_cleared, has_number, unmounts, unmounted_by, LinesTook, LinesDid}
+use Rattle.script_run.specs.Lines.{is_shared, Cached, cached, reading, IsAnswer, IsMarked, IsOrNoMemory, HasKind, FilesKind, FilesRead, LineDoes}
+use Rattle.shared_run.specs.Workers.{MarkSeen, LineAnswered, AllAnswered, is_decayed, is_cleared, has_number, unmounts, unmounted_by, LinesTook, LinesDid}
 
 -- ---- replies
 

@@ -1,18 +1,15 @@
 -- The workers' parts make the block.
-use Rattle.std.proofs.Common.{◌≡◌, ◌∙◌, ◌<◌, ◌≤◌, ◌+◌, ℕ, zero, suc, Bool, true, false, cond, List, [], ◌∷◌, ◌++◌, length, sym, subst, ap, refl, inl, inr, arith, mod-lt}
-use Rattle.std.specs.Prelude.{IsTrue, Option, Some, None, ◌||◌, ◌&&◌, ◌⊎◌, ◌==◌, ◌%◌, count_by}
+use Rattle.std.proofs.Common.{◌≡◌, ◌<◌, ◌+◌, ℕ, Bool, true, false, cond, List, [], ◌∷◌, length, ap, refl, arith, mod-lt}
+use Rattle.std.specs.Prelude.{◌||◌, ◌==◌, ◌%◌, count_by}
 use Rattle.std.proofs.lemmas.Bool.Decides.{Decides-eqb}
 use Rattle.std.proofs.lemmas.List.Sums.{sum_by-cons}
 use Rattle.cache_outside.specs.Listing.{Listing}
-use Rattle.index_mounts.specs.Rosters.{MountView, RosterView, mounted}
-use Rattle.mount_script.specs.declared.command.Command.{Command}
-use Rattle.mount_script.specs.declared.command.Command.TheVariants.{Mount, Unmount, Clear, Decay, Stats, Search, Fetch, Read}
+use Rattle.index_mounts.specs.Rosters.{RosterView}
 use Rattle.mount_script.specs.declared.command.Line.{Line}
 use Rattle.mount_script.specs.declared.reply.Reply.{Reply}
-use Rattle.mount_script.specs.declared.reply.Reply.TheVariants as reply
 use Rattle.script_run.specs.Allowed.{faults_of, is_fault}
 use Rattle.shared_run.specs.Shares.{share}
-use Rattle.shared_run.specs.Workers.{LineAnswered, AllAnswered, unmounts, unmounted_by}
+use Rattle.shared_run.specs.Workers.{AllAnswered, unmounts, unmounted_by}
 
 count_front : (f : Reply → Bool) (x : Reply) (xs : List Reply) → count_by f (x ∷ xs) ≡ cond (f x) 1 0 + count_by f xs
 count_front f x xs = sum_by-cons (λ (y : Reply). cond (f y) 1 0) x xs

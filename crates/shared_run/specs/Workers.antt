@@ -1,5 +1,5 @@
 -- What lines do that one worker runs one after another, through one door and on one source.
-use Rattle.std.specs.Prelude.{ℕ, ◌≡◌, ◌≤◌, ◌<◌, ◌==◌, ◌||◌, ◌&&◌, List, [], ◌∷◌, length, count_by, Bool, true, false, IsTrue, Option, Some, None}
+use Rattle.std.specs.Prelude.{ℕ, ◌≡◌, ◌≤◌, ◌==◌, ◌||◌, ◌&&◌, List, [], ◌∷◌, length, count_by, Bool, true, false, IsTrue, Option, Some, None}
 use Rattle.std.specs.List.{list_any}
 use Rattle.byte_text.specs.Counts.{Rose}
 use Rattle.blob_parts.specs.Takes.{Took}

@@ -37,7 +37,8 @@ fn run_jobs<
     jobs: &mut [Job<A, S>],
 )
     requires count { (0 < length jobs.old) × (length jobs.old ≤ 8) }
-    requires ready { (k : ℕ) (d : _) → k < length jobs.old → IsReady cache.now (slice_index_or jobs.old k d).pass }
+    requires ready { (k : ℕ) (d : _) → k < length jobs.old →
+        IsReady cache.now (slice_index_or jobs.old k d).pass }
     requires none { (k : ℕ) (d : _) → k < length jobs.old →
         ((slice_index_or jobs.old k d).replies.items ≡ []) × (vec_len (slice_index_or jobs.old k d).replies ≡ 0) }
     requires room { (k : ℕ) (d : _) → k < length jobs.old →

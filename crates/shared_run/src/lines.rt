@@ -66,7 +66,8 @@ pub(crate) fn run_share<A: Archive, D: CacheDoor<A>, S: BlobSource<A>, G: Gate>(
     requires none { (replies.old.items ≡ []) × (vec_len replies.old ≡ 0) }
     requires room { length (share workers worker 0 block.now) ≤ vec_capacity replies.old }
     ensures did { LinesDid (cached A.tells A.blobs config.now) roster.now (share workers worker 0 block.now)
-        replies.new.items (moment (S.view source.old) (D.view door.old)) (moment (S.view source.new) (D.view door.new)) }
+        replies.new.items (moment (S.view source.old) (D.view door.old))
+        (moment (S.view source.new) (D.view door.new)) }
     ensures stays { D.stays door.old door.new }
     ensures hold { (D.view door.new).hold ≡ nothing }
 {

@@ -1,9 +1,9 @@
-use Rattle.std.proofs.Common.{arith, ◌≡◌, ◌∙◌, ◌≤◌, ◌+◌, ◌++◌, ◌∷◌, [], ℕ, List, map, ap, sym, subst, refl, Option, add-zero}
+use Rattle.std.proofs.Common.{arith, ◌∙◌, ◌+◌, ◌∷◌, [], ℕ, List, map, ap, sym, subst, refl, Option, add-zero}
 use Rattle.std.proofs.lemmas.List.{map-append}
 use Rattle.std.specs.Vec.Iter.{into_iter_items, into_iter_len}
 use Rattle.cache_table.specs.Views.{PassView}
 use Rattle.shared_run.specs.declared.job.Job.{Job}
-use Rattle.shared_run.specs.Dealt.{AllDealt, IsDealt, without_shares}
+use Rattle.shared_run.specs.Dealt.{AllDealt, IsDealt}
 use Rattle.shared_run.proofs.Deals.{front_more, mapped_more, dealt_more, dealt_from, one_more_share, no_share}
 use Rattle.shared_run.proofs.deal.deal.Goals as goal
 

@@ -1,5 +1,5 @@
-use Rattle.std.proofs.Common.{◌≡◌, ◌≤◌}
-use Rattle.std.specs.Prelude.{vec_len, vec_capacity}
+use Rattle.std.proofs.Common.{◌≡◌}
+use Rattle.std.specs.Prelude.{vec_len}
 use Rattle.shared_run.specs.Dealt.{AreRooms}
 use Rattle.shared_run.proofs.deal.rooms.Given as goal
 

@@ -1,12 +1,11 @@
-use Rattle.std.proofs.Common.{◌≡◌, ◌∙◌, ◌<◌, ℕ, sym, ap, ap₂, subst, Option, Some}
-use Rattle.blob_parts.specs.Content.{content}
-use Rattle.cache_door.specs.Doors.{DoorView, hold_view}
+use Rattle.std.proofs.Common.{◌≡◌, ◌∙◌, sym, ap, ap₂, subst, Option, Some}
+use Rattle.cache_door.specs.Doors.{DoorView}
 use Rattle.cache_reader.specs.Going.{moment}
 use Rattle.cache_table.specs.Views.{PassView}
 use Rattle.cache_table.specs.Doors.{view_at}
 use Rattle.script_run.specs.Lines.{cached}
 use Rattle.shared_run.specs.Shares.{share}
-use Rattle.shared_run.specs.Workers.{LinesDid, IsIdle, IsReady, JobRan}
+use Rattle.shared_run.specs.Workers.{LinesDid, JobRan}
 use Rattle.shared_run.proofs.job.work.Goals as goal
 
 pub returns-clause-ran : goal.returns-clause-ran

@@ -1,4 +1,4 @@
-use Rattle.std.proofs.Common.{arith, ◌≡◌, ◌∙◌, ◌<◌, ◌+◌, ◌++◌, ◌∷◌, [], ℕ, List, length, take, sym, ap, subst, refl}
+use Rattle.std.proofs.Common.{arith, ◌∙◌, ◌+◌, ◌++◌, ◌∷◌, [], ℕ, List, length, take, sym, ap, subst, refl}
 use Rattle.std.proofs.lemmas.List.{length-append}
 use Rattle.mount_script.specs.declared.reply.Reply.{Reply}
 use Rattle.cache_reader.specs.Going.{moment}

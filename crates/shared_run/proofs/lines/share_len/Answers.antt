@@ -1,4 +1,4 @@
-use Rattle.std.proofs.Common.{arith, ◌≡◌, ◌∙◌, ◌+◌, ℕ, length, sym, ap}
+use Rattle.std.proofs.Common.{arith, ◌∙◌, ◌+◌, ℕ, length, sym, ap}
 use Rattle.shared_run.proofs.Shares.{longer, share_same, same_is, other_is}
 use Rattle.shared_run.proofs.lines.share_len.Goals as goal
 use Rattle.shared_run.proofs.lines.share_len.Goals.{then-k-workers, else-k-workers}
