@@ -1,0 +1,5 @@
+mod Shares
+mod LinesDone
+mod Parts
+mod Deals
+mod Joins

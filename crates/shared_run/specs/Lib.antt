@@ -1,0 +1,4 @@
+pub mod Shares
+pub mod Workers
+pub mod Dealt
+pub mod Gathered

@@ -1,0 +1,11 @@
+//! The run of a script by several workers, through one cache that they share.
+#![tactic(auto)]
+
+mod block;
+mod deal;
+mod gate;
+mod gather;
+mod job;
+mod lines;
+
+pub use gate::{Gate, OpenGate};
