@@ -26,6 +26,7 @@ joined_none p = record {
   clears = same_grew _ _ 0 refl refl;
   stored = same_grew _ _ 0 refl refl;
   turned = same_grew _ _ 0 refl refl;
+  whole = λ some. absurd (omega (arith, some));
 }
   where
     sum : (n : ℕ) → n ≡ n + 0
@@ -46,4 +47,5 @@ joined_more p os q (Some s) r h k = record {
   clears = grew_more p.work.clears q.work.clears r.work.clears (λ (t : PassView). t.work.clears) os s h.clears (grew_by _ _ _ k.work.clears);
   stored = grew_more p.work.stored q.work.stored r.work.stored (λ (t : PassView). t.work.stored) os s h.stored (grew_by _ _ _ k.work.stored);
   turned = grew_more p.work.turned_away q.work.turned_away r.work.turned_away (λ (t : PassView). t.work.turned_away) os s h.turned (grew_by _ _ _ k.work.turned_away);
+  whole = λ _. k.whole;
 }
