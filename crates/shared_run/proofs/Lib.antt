@@ -3,3 +3,4 @@ mod LinesDone
 mod Parts
 mod Deals
 mod Joins
+mod Allows

@@ -1,0 +1,61 @@
+-- The answers of several workers are allowed replies, where each `gone` has its `unmount` line in the block.
+use Rattle.std.proofs.Common.{◌≡◌, ◌++◌, ℕ, Bool, true, false, List, [], ◌∷◌, refl}
+use Rattle.std.specs.Prelude.{◌==◌, IsTrue}
+use Rattle.index_mounts.specs.Rosters.{RosterView, mounted}
+use Rattle.mount_script.specs.declared.command.Command.{Command}
+use Rattle.mount_script.specs.declared.command.Command.TheVariants.{Mount, Unmount, Clear, Decay, Stats, Search, Fetch, Read}
+use Rattle.mount_script.specs.declared.command.Line.{Line}
+use Rattle.mount_script.specs.declared.reply.Reply.{Reply}
+use Rattle.mount_script.specs.declared.reply.Reply.TheVariants as reply
+use Rattle.shard_replies.specs.ExpectedReplies.{Mounts, expected_reply, used_name}
+use Rattle.script_run.specs.Mounting.{mounts_of}
+use Rattle.script_run.specs.Allowed.{RunSetting, Allowed, AllowedFrom, IsPlain, near_lines, reads_files, reads_source, unmounted_in, may_be_gone}
+use Rattle.script_run.specs.Lines.{is_shared}
+use Rattle.script_run.specs.Blocks.{AllShared}
+use Rattle.shared_run.specs.Workers.{SeenGone, LineAnswered, AllAnswered}
+
+source_read : (c : Command) → IsTrue (reads_files c) → IsTrue (reads_source c)
+source_read (Mount name manifest) h = refl
+source_read (Unmount name) h = h
+source_read (Clear name) h = h
+source_read Decay h = h
+source_read Stats h = h
+source_read (Search name size text) h = h
+source_read (Fetch name segment doc) h = h
+source_read (Read name file at len) h = h
+
+may_go : (near : List Line) (c : Command) → IsTrue (reads_files c) → IsTrue (unmounted_in near (used_name c)) → IsTrue (may_be_gone near c)
+may_go near (Mount name manifest) h u = h
+may_go near (Unmount name) h u = h
+may_go near (Clear name) h u = h
+may_go near Decay h u = h
+may_go near Stats h u = h
+may_go near (Search name size text) h u = u
+may_go near (Fetch name segment doc) h u = u
+may_go near (Read name file at len) h u = u
+
+plain_told : (s : RunSetting) (m : Mounts) (c : Command) (x : Reply) → is_shared c ≡ true → (IsTrue s.tells → x ≡ expected_reply s.blobs m c) → IsPlain s m c x
+plain_told s m (Mount name manifest) x h k = absurd (cc)
+plain_told s m (Unmount name) x h k = k
+plain_told s m (Clear name) x h k = k
+plain_told s m Decay x h k = k
+plain_told s m Stats x h k = absurd (cc)
+plain_told s m (Search name size text) x h k = k
+plain_told s m (Fetch name segment doc) x h k = k
+plain_told s m (Read name file at len) x h k = k
+
+module _ (s : RunSetting) (r : RosterView) (seen : ℕ → Bool) (block : List Line) (several : (s.workers == 1) ≡ false)
+    (cause : (c : Command) → IsTrue (reads_files c) → SeenGone (mounted (used_name c) r) seen → IsTrue (unmounted_in block (used_name c))) where
+  line_allowed : (c : Command) (x : Reply) → is_shared c ≡ true → LineAnswered s.tells s.blobs r seen c x → Allowed s (mounts_of r) block c x
+  line_allowed c reply.Fault shared h = source_read c h.mark
+  line_allowed c reply.Gone shared h = may_go block c h.mark.0 (cause c h.mark.0 h.mark.1)
+  line_allowed c reply.NoMemory shared h = tt {0}
+  line_allowed c x shared h = plain_told s (mounts_of r) c x shared h.told
+
+  -- all lines of a block
+  pub all_allowed : (before ls : List Line) (xs : List Reply) → AllShared ls → AllAnswered s.tells s.blobs r seen ls xs → AllowedFrom s (mounts_of r) block before ls xs
+  all_allowed before [] [] shared h = tt {0}
+  all_allowed before [] (x ∷ xs) shared h = absurd h
+  all_allowed before (l ∷ ls) [] shared h = absurd h
+  all_allowed before (l ∷ ls) (x ∷ xs) shared h =
+      (rw several (line_allowed l.command x shared.0 h.0), all_allowed (before ++ l ∷ []) ls xs shared.1 h.1)
