@@ -1,7 +1,11 @@
 -- The answers of several workers are allowed replies, where each `gone` has its `unmount` line in the block.
-use Rattle.std.proofs.Common.{◌≡◌, ◌++◌, ℕ, Bool, true, false, List, [], ◌∷◌, refl}
-use Rattle.std.specs.Prelude.{◌==◌, IsTrue}
-use Rattle.index_mounts.specs.Rosters.{RosterView, mounted}
+use Rattle.std.proofs.Common.{◌≡◌, ◌∙◌, ◌++◌, ℕ, Bool, true, false, List, [], ◌∷◌, sym, ap, refl}
+use Rattle.std.specs.Prelude.{◌==◌, ◌||◌, IsTrue, Option, Some, None}
+use Rattle.std.specs.Str.{bytes_eq}
+use Rattle.std.proofs.lemmas.Bool.Decides.{Decides-eqb}
+use Rattle.std.proofs.lemmas.Slice.Eq.{bytes_eq-Decides}
+use Rattle.cache_outside.specs.Listing.{Listing}
+use Rattle.index_mounts.specs.Rosters.{MountView, RosterView, IsRoster, mounted}
 use Rattle.mount_script.specs.declared.command.Command.{Command}
 use Rattle.mount_script.specs.declared.command.Command.TheVariants.{Mount, Unmount, Clear, Decay, Stats, Search, Fetch, Read}
 use Rattle.mount_script.specs.declared.command.Line.{Line}
@@ -9,10 +13,10 @@ use Rattle.mount_script.specs.declared.reply.Reply.{Reply}
 use Rattle.mount_script.specs.declared.reply.Reply.TheVariants as reply
 use Rattle.shard_replies.specs.ExpectedReplies.{Mounts, expected_reply, used_name}
 use Rattle.script_run.specs.Mounting.{mounts_of}
-use Rattle.script_run.specs.Allowed.{RunSetting, Allowed, AllowedFrom, IsPlain, near_lines, reads_files, reads_source, unmounted_in, may_be_gone}
-use Rattle.script_run.specs.Lines.{is_shared}
+use Rattle.script_run.specs.Allowed.{RunSetting, Allowed, AllowedFrom, IsPlain, near_lines, reads_files, reads_source, unmounted_in, is_unmount_of, may_be_gone}
+use Rattle.script_run.specs.Lines.{is_shared, HasKind}
 use Rattle.script_run.specs.Blocks.{AllShared}
-use Rattle.shared_run.specs.Workers.{SeenGone, LineAnswered, AllAnswered}
+use Rattle.shared_run.specs.Workers.{SeenGone, LineAnswered, AllAnswered, has_number, unmounts, unmounted_by}
 
 source_read : (c : Command) → IsTrue (reads_files c) → IsTrue (reads_source c)
 source_read (Mount name manifest) h = refl
@@ -59,3 +63,35 @@ module _ (s : RunSetting) (r : RosterView) (seen : ℕ → Bool) (block : List L
   all_allowed before (l ∷ ls) [] shared h = absurd h
   all_allowed before (l ∷ ls) (x ∷ xs) shared h =
       (rw several (line_allowed l.command x shared.0 h.0), all_allowed (before ++ l ∷ []) ls xs shared.1 h.1)
+
+module _ (tells : Bool) (blobs : Listing) (r : RosterView) (kept : IsRoster tells blobs r) (name : List ℕ) (m : MountView) (is : mounted name r ≡ Some m) where
+  by_mount : (c : Command) (o : Option MountView) → mounted (used_name c) r ≡ o → is_shared c ≡ true → HasKind c o reply.Unmounted → has_number m.mount o ≡ true → is_unmount_of name c ≡ true
+  by_mount c None e shared kind u = absurd (cc)
+  by_mount (Unmount other) (Some t) e shared kind u =
+      let same : other ≡ name = kept.once other name t m e is (sym ((Decides-eqb m.mount t.mount).0 u)) in
+      ap (λ (n : List ℕ). bytes_eq n name) same ∙ (bytes_eq-Decides name name).1 refl
+  by_mount (Mount other manifest) (Some t) e shared kind u = absurd (cc)
+  by_mount Stats (Some t) e shared kind u = absurd (cc)
+  by_mount (Clear other) (Some t) e shared kind u = absurd (cc)
+  by_mount Decay (Some t) e shared kind u = absurd (cc)
+  by_mount (Search other size text) (Some t) e shared kind u = absurd kind
+  by_mount (Fetch other segment doc) (Some t) e shared kind u = absurd kind
+  by_mount (Read other file at len) (Some t) e shared kind u = absurd kind
+
+  line_names : (c : Command) (x : Reply) → is_shared c ≡ true → HasKind c (mounted (used_name c) r) x → unmounts r c x m.mount ≡ true → is_unmount_of name c ≡ true
+  line_names c reply.Unmounted shared kind u = by_mount c (mounted (used_name c) r) refl shared kind u
+  line_names c x shared kind u = absurd (cc)
+
+  -- a mount that lines unmounted has an `unmount` line of its name among them
+  pub lines_name : (told : Bool) (seen : ℕ → Bool) (ls : List Line) (xs : List Reply) → AllShared ls → AllAnswered told blobs r seen ls xs → unmounted_by r ls xs m.mount ≡ true → unmounted_in ls name ≡ true
+  lines_name told seen [] xs shared h u = absurd (cc)
+  lines_name told seen (l ∷ ls) [] shared h u = absurd (cc)
+  lines_name told seen (l ∷ ls) (x ∷ xs) shared h u = by_line (unmounts r l.command x m.mount) refl (lines_name told seen ls xs shared.1 h.1)
+    where
+      or_true : (b : Bool) → (b || true) ≡ true
+      or_true true = refl
+      or_true false = refl
+
+      by_line : (b : Bool) → unmounts r l.command x m.mount ≡ b → (unmounted_by r ls xs m.mount ≡ true → unmounted_in ls name ≡ true) → unmounted_in (l ∷ ls) name ≡ true
+      by_line true e f = ap (λ (b : Bool). b || unmounted_in ls name) (line_names l.command x shared.0 h.0.kind e)
+      by_line false e f = ap (λ (b : Bool). is_unmount_of name l.command || b) (f (rw e at u)) ∙ or_true (is_unmount_of name l.command)
