@@ -95,3 +95,10 @@ module _ (tells : Bool) (blobs : Listing) (r : RosterView) (kept : IsRoster tell
       by_line : (b : Bool) → unmounts r l.command x m.mount ≡ b → (unmounted_by r ls xs m.mount ≡ true → unmounted_in ls name ≡ true) → unmounted_in (l ∷ ls) name ≡ true
       by_line true e f = ap (λ (b : Bool). b || unmounted_in ls name) (line_names l.command x shared.0 h.0.kind e)
       by_line false e f = ap (λ (b : Bool). is_unmount_of name l.command || b) (f (rw e at u)) ∙ or_true (is_unmount_of name l.command)
+
+-- Where the mounts of the roster that were seen gone are those that the block's lines unmounted, its replies are allowed ones.
+pub block_allowed : (s : RunSetting) (tells : Bool) (r : RosterView) (seen : ℕ → Bool) (block : List Line) (xs : List Reply) → (s.workers == 1) ≡ false → IsRoster tells s.blobs r → AllShared block
+    → AllAnswered s.tells s.blobs r seen block xs → ((name : List ℕ) (m : MountView) → mounted name r ≡ Some m → seen m.mount ≡ true → unmounted_by r block xs m.mount ≡ true)
+    → AllowedFrom s (mounts_of r) block [] block xs
+block_allowed s tells r seen block xs several kept shared h gone =
+    all_allowed s r seen block several (λ c reads g. lines_name tells s.blobs r kept (used_name c) g.mount g.is s.tells seen block xs shared h (gone (used_name c) g.mount g.is g.gone)) [] block xs shared h
