@@ -2,6 +2,7 @@ mod Rows
 pub mod Ties
 pub mod Finds
 pub mod Fresh
+pub mod Counts
 pub mod Moves
 pub mod Looks
 pub mod Stores

@@ -1,5 +1,5 @@
 -- The code's ranges and gaps, and the states that they stand for.
-use Rattle.std.proofs.Common.{arith, ◌≡◌, ◌<◌, ◌≤◌, ◌+◌, ◌-◌, ℕ, zero, suc, Bool, true, false, List, [], ◌∷◌, ◌++◌, sym, ◌∙◌, ap, inl, inr, refl, length, take, Some, None}
+use Rattle.std.proofs.Common.{arith, ◌≡◌, ◌<◌, ◌≤◌, ◌+◌, ℕ, zero, suc, Bool, true, false, List, [], ◌∷◌, ◌++◌, sym, ◌∙◌, ap, inl, inr, refl, length, take, Some, None}
 use Rattle.std.specs.Prelude.{◌||◌, min, not, map, if◌then◌else◌, replicate}
 use Rattle.std.specs.List.{range_with_len}
 use Rattle.std.proofs.lemmas.Bool.{cases_lt, cases_Bool}
@@ -8,11 +8,9 @@ use Rattle.std.proofs.lemmas.Bool.Decides.{nat_tests}
 use Rattle.region_ranges.specs.declared.ranges.ByteRange.{ByteRange}
 use Rattle.region_ranges.specs.Ranges.{inside, has, free_below, first_run}
 use Rattle.sparse_tracker.specs.declared.gaps.OpenGap.{OpenGap}
-use Rattle.sparse_tracker.specs.ByteStates.{ByteState, absent, pending, is_absent, change_from, change, least_from, Tracker, claimed_run, not_behind, wait_for_range, new_ticket, with_ticket, open_gap}
+use Rattle.sparse_tracker.specs.ByteStates.{ByteState, absent, pending, is_absent, change_from, change, Tracker, claimed_run, not_behind, wait_for_range, new_ticket, with_ticket, open_gap}
 use Rattle.sparse_tracker.specs.Kept.{byte_state_at, byte_states_of, in_gap, AllTaken, AllInside}
 use Rattle.sparse_tracker.specs.declared.tickets.Ticket.{Ticket}
-use Rattle.std.specs.List.{list_any}
-use Rattle.std.specs.Prelude.{◌==◌}
 
 pub map_same : {X : Type 0} (f g : ℕ → X) (a n : ℕ) → ((i : ℕ) → a ≤ i → i < a + n → f i ≡ g i) → map f (range_with_len a n) ≡ map g (range_with_len a n)
 map_same f g a zero h = refl
@@ -95,10 +93,6 @@ module _ (len : ℕ) (taken more : List ByteRange) (run : ByteRange) (id : ℕ) 
 pub all_inside : (len : ℕ) (ks : List Ticket) (k : Ticket) → AllInside len ks → k.start < k.end → k.end ≤ len → AllInside len (ks ++ k ∷ [])
 all_inside len [] k a h j = (h, j, tt)
 all_inside len (x ∷ xs) k a h j = (a.0, a.1, all_inside len xs k a.2 h j)
-
-pub least_step : (k n : ℕ) (used : List ℕ) → 0 < k → least_from k n used ≡ (if list_any (λ m. m == n) used then least_from (k - 1) (n + 1) used else n)
-least_step zero n used h = absurd (omega arith)
-least_step (suc k) n used h = let e : suc k - 1 ≡ k = omega arith in rw e refl
 
 pub no_byte_states : (a len : ℕ) → map (byte_state_at [] []) (range_with_len a len) ≡ replicate len absent
 no_byte_states a zero = refl

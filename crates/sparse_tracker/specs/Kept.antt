@@ -72,6 +72,11 @@ abbrev pub AllDiffer : List ℕ → Type 0
 AllDiffer [] = Unit {0}
 AllDiffer (n ∷ ns) = (list_any (λ m. m == n) ns ≡ false) × AllDiffer ns
 
+-- how many of the numbers are below the limit
+abbrev pub count_below : ℕ → List ℕ → ℕ
+count_below limit [] = 0
+count_below limit (n ∷ ns) = (if nat_lt n limit then 1 else 0) + count_below limit ns
+
 abbrev pub AllInside : ℕ → List Ticket → Type 0
 AllInside len [] = Unit {0}
 AllInside len (k ∷ ks) = (k.start < k.end) × (k.end ≤ len) × AllInside len ks

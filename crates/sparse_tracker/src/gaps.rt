@@ -2,9 +2,10 @@
 
 ghost use Rattle.std.specs.Prelude.{◌≡◌, ◌<◌, ◌≤◌, ◌+◌, ℕ, length, ◌==◌, IsSome, find, not, vec_len, vec_capacity};
 ghost use Rattle.std.specs.List.{list_any, prefix_len};
-ghost use Rattle.sparse_tracker.specs.ByteStates.{least_unused, ids, move_gap, without_gap};
+ghost use Rattle.sparse_tracker.specs.ByteStates.{move_gap, without_gap};
 ghost use Rattle.sparse_tracker.specs.Kept.{meets};
 
+use crate::unused::Numbered;
 use region_ranges::ByteRange;
 
 /// An open gap: its bytes below `upto` are present, those from there to `end` are pending.
@@ -18,29 +19,12 @@ pub struct OpenGap {
     pub end: u64,
 }
 
-fn has_id(gaps: &[OpenGap], id: u32) -> bool
-    ensures { result ≡ list_any (λ m. m == id) (ids gaps.now) }
-{
-    for gap in gaps {
-        if gap.id == id {
-            return true;
-        }
-    }
-    false
-}
+impl Numbered for OpenGap {
+    ghost number = { λ g. g.id };
 
-/// The least number that no gap has.
-pub fn unused_id(gaps: &[OpenGap]) -> u32
-    requires { length gaps.now < 4294967296 }
-    ensures { result ≡ least_unused (ids gaps.now) }
-{
-    let count = gaps.len() as u32;
-    for id in 0..count {
-        if !has_id(gaps, id) {
-            return id;
-        }
+    fn number(&self) -> u32 {
+        self.id
     }
-    count
 }
 
 // the place of the gap of that id

@@ -7,6 +7,7 @@ mod laws;
 mod status;
 mod tickets;
 mod tracker;
+mod unused;
 
 pub use gaps::OpenGap;
 pub use laws::{claim_places, gap_weights, present_stays, ticket_weights};

@@ -3,9 +3,10 @@
 ghost use Rattle.std.specs.Prelude.{◌≡◌, ◌<◌, ◌≤◌, ◌+◌, ℕ, length, ◌==◌, ◌++◌, ◌∷◌, [], IsSome, find, not, map, false, vec_len, vec_capacity};
 ghost use Rattle.std.specs.List.{list_any, prefix_len};
 ghost use Rattle.sparse_tracker.specs.ByteStates.{least_unused, numbers, without_ticket};
-ghost use Rattle.sparse_tracker.specs.Kept.{mark};
+ghost use Rattle.sparse_tracker.specs.Kept.{AllDiffer, mark};
 
 use crate::gaps::OpenGap;
+use crate::unused::{Numbered, unused_number};
 use region_ranges::ByteRange;
 
 /// Somebody waits for the bytes from `start` up to `end`; `failed` says that a gap failed on one of them meanwhile.
@@ -21,34 +22,18 @@ pub struct Ticket {
     pub failed: bool,
 }
 
-fn has_number(tickets: &[Ticket], number: u32) -> bool
-    ensures { result ≡ list_any (λ m. m == number) (numbers tickets.now) }
-{
-    for ticket in tickets {
-        if ticket.number == number {
-            return true;
-        }
-    }
-    false
-}
+impl Numbered for Ticket {
+    ghost number = { λ t. t.number };
 
-/// The least number that no ticket has.
-pub fn unused_number(tickets: &[Ticket]) -> u32
-    requires { length tickets.now < 4294967296 }
-    ensures { result ≡ least_unused (numbers tickets.now) }
-{
-    let count = tickets.len() as u32;
-    for number in 0..count {
-        if !has_number(tickets, number) {
-            return number;
-        }
+    fn number(&self) -> u32 {
+        self.number
     }
-    count
 }
 
 /// Puts a ticket on the range behind the others, for which there is room, and answers its number.
 pub fn push_ticket(tickets: &mut Vec<Ticket>, sub: ByteRange) -> u32
-    requires { (vec_len tickets.old < vec_capacity tickets.old) × (vec_len tickets.old < 4294967295) }
+    requires room { (vec_len tickets.old < vec_capacity tickets.old) × (vec_len tickets.old < 4294967295) }
+    requires differ { AllDiffer (numbers tickets.old.items) }
     ensures number { result ≡ least_unused (numbers tickets.old.items) }
     ensures items { tickets.new.items ≡ tickets.old.items
         ++ record { number = result; start = sub.start; end = sub.end; failed = false } ∷ [] }

@@ -4,11 +4,12 @@
 ghost use Rattle.std.specs.Prelude.{◌≡◌, ◌<◌, ◌≤◌, ◌+◌, ◌-◌, ℕ, max, OnOk, OnErr, IfOk, IsOk, IfSome, IsSome, option_map, length, true, false, ◌||◌, ◌&&◌, not, ◌++◌, ◌∷◌, [], Some, vec_len, vec_capacity};
 ghost use Rattle.region_ranges.specs.Ranges.{inside, has, first_run, free_below};
 ghost use Rattle.sparse_tracker.specs.ByteStates.{TrackerView, new_tracker, absent_run, not_behind, wait_for_range, new_claim, has_all, wait_if_pending, pending_ticket, progress, complete, fail, leave, status, gap_of, ticket_of, least_unused, ids};
-ghost use Rattle.sparse_tracker.specs.Kept.{IsKept, any_free, in_gap};
+ghost use Rattle.sparse_tracker.specs.Kept.{AllDiffer, IsKept, any_free, in_gap};
 
-use crate::gaps::{OpenGap, gap_of, has_pending, move_gap, take_gap, unused_id};
+use crate::gaps::{OpenGap, gap_of, has_pending, move_gap, take_gap};
 use crate::status::{Claim, Gap, Status};
 use crate::tickets::{Ticket, drop_ticket, mark_tickets, push_ticket, ticket_of};
+use crate::unused::unused_number;
 use region_ranges::{ByteRange, RangeSet};
 use std::alloc::{AllocError, Global};
 use std::marker::Model;
@@ -269,6 +270,7 @@ fn open(taken: &mut RangeSet, gaps: &mut Vec<OpenGap>, run: ByteRange) -> u32
     requires run { run.start < run.end }
     requires spare { 0 < taken.old.spare }
     requires room { (vec_len gaps.old < vec_capacity gaps.old) × (vec_len gaps.old < 4294967295) }
+    requires differ { AllDiffer (ids gaps.old.items) }
     ensures id { result ≡ least_unused (ids gaps.old.items) }
     ensures gaps { gaps.new.items ≡ gaps.old.items ++ record { id = result; upto = run.start; end = run.end } ∷ [] }
     ensures places { (i : ℕ) → has taken.new.ranges i ≡ (inside run i || has taken.old.ranges i) }
@@ -276,7 +278,7 @@ fn open(taken: &mut RangeSet, gaps: &mut Vec<OpenGap>, run: ByteRange) -> u32
     ensures len { vec_len gaps.new ≡ vec_len gaps.old + 1 }
     ensures capacity { vec_capacity gaps.old ≤ vec_capacity gaps.new }
 {
-    let id = unused_id(gaps);
+    let id = unused_number(gaps);
     let Ok(()) = taken.add(run) else {
         unreachable!()
     };
