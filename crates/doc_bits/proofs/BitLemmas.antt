@@ -1,11 +1,11 @@
 -- Bits of words, and sets that lie in words.
-use Rattle.std.proofs.Common.{◌≡◌, ℕ, zero, suc, ◌+◌, ◌-◌, ◌*◌, ◌/◌, ◌%◌, ◌^◌, ◌<◌, ◌≤◌, ◌≢◌, Bool, true, false, not, cond, ◌&&◌, ◌||◌, eqb, List, length, get_or, min, max, sym, refl, ap, ◌∙◌, inl, inr, arith, w64, bit_and, bit_or, bit_xor, eq-eqb}
-use Rattle.std.specs.Int.{bit_at, bit_not}
+use Rattle.std.proofs.Common.{◌≡◌, ℕ, zero, suc, ◌*◌, ◌/◌, ◌%◌, ◌^◌, ◌<◌, ◌≤◌, ◌≢◌, Bool, true, false, cond, eqb, List, length, get_or, sym, refl, ◌∙◌, inl, inr, arith, w64, bit_or, eq-eqb}
+use Rattle.std.specs.Int.{bit_at}
 use Rattle.std.specs.List.{range_with_len}
 use Rattle.std.proofs.lemmas.Bool.{cases_lt}
 use Rattle.std.proofs.lemmas.List.{get_or_past}
 use Rattle.std.proofs.lemmas.Nat.Bits.{bit_at-zero, bit_at-lt, bit_at_set_same, bit_at_set_other}
-use Rattle.doc_bits.specs.Places.{zip_with, and_not, either_not_both}
+use Rattle.doc_bits.specs.Places.{zip_with}
 use Rattle.doc_bits.specs.Words.{has_bit, holds_at, list_of, IsLaidOut}
 use Rattle.doc_bits.proofs.Lists.{zip_with-map, map-range_same}
 

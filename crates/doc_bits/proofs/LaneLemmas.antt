@@ -1,5 +1,5 @@
 -- Words in vectors and chunks of eight.
-use Rattle.std.proofs.Common.{◌≡◌, ℕ, zero, suc, ◌+◌, ◌-◌, ◌*◌, ◌/◌, ◌%◌, ◌^◌, ◌<◌, ◌≤◌, List, [], ◌∷◌, length, get_or, take, drop, map, sym, refl, ap, ap₂, ◌∙◌, inl, inr, arith, sum_by, count_ones, Fits, w64}
+use Rattle.std.proofs.Common.{◌≡◌, ℕ, zero, suc, ◌+◌, ◌-◌, ◌*◌, ◌/◌, ◌%◌, ◌<◌, ◌≤◌, List, [], ◌∷◌, length, get_or, take, drop, map, sym, refl, ap, ap₂, ◌∙◌, inl, inr, arith, sum_by, count_ones, Fits, w64}
 use Rattle.std.specs.Simd.Lanes.{zip2, chunk, put_chunk, sum_l, Each1}
 use Rattle.std.specs.Simd.{first_chunks}
 use Rattle.std.proofs.lemmas.Bool.{cases_lt}

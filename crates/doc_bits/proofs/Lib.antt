@@ -3,6 +3,6 @@ pub mod BitLemmas
 pub mod LaneLemmas
 pub mod LayoutLemmas
 pub mod PlaceLemmas
+pub mod CountLemmas
 pub mod NumberLemmas
 pub mod PlaneLemmas
-pub mod CountLemmas

@@ -1,13 +1,14 @@
 -- Bit planes: what one plane more adds to the counts, and how it compares them.
-use Rattle.std.proofs.Common.{◌≡◌, ℕ, zero, suc, ◌+◌, ◌*◌, ◌/◌, ◌%◌, ◌^◌, ◌<◌, ◌≤◌, Bool, true, false, cond, eqb, nat_le, ◌&&◌, ◌||◌, List, [], ◌∷◌, length, get_or, set, map, replicate, sym, refl, ap, ◌∙◌, arith, bit_and, All}
+use Rattle.std.proofs.Common.{◌≡◌, ℕ, zero, suc, ◌+◌, ◌*◌, ◌/◌, ◌%◌, ◌^◌, ◌<◌, ◌≤◌, Bool, false, cond, eqb, nat_le, ◌&&◌, ◌||◌, List, [], length, get_or, set, map, replicate, sym, refl, ap, ◌∙◌, arith, bit_and, All}
 use Rattle.std.proofs.Math.Nat.{mod-eq_of_lt}
 use Rattle.std.proofs.lemmas.List.{length-map, get_or-map, map-set, ext_get_or, get_or-replicate, length-replicate}
 use Rattle.std.proofs.lemmas.List.Elements.{All-replicate}
 use Rattle.std.proofs.lemmas.List.FromFn.{length-map-range_with_len, get_or-map-range_with_len}
-use Rattle.doc_bits.specs.Counts.{counted, IsCounted}
+use Rattle.doc_bits.specs.Counts.{counted}
 use Rattle.doc_bits.specs.Places.{zip_with, and_not, either_not_both}
 use Rattle.doc_bits.specs.Planes.{number, digits_at, counts_of, AreLaidOut}
 use Rattle.doc_bits.proofs.Lists.{length-zip_with, get_or-zip_with, replicate_of_range}
+use Rattle.doc_bits.proofs.CountLemmas.{counts_le}
 use Rattle.doc_bits.proofs.NumberLemmas.{number-set, digit_added, digit_compared}
 
 length-digits_at : (planes : List (List Bool)) (i : ℕ) → length (digits_at planes i) ≡ length planes
@@ -83,6 +84,44 @@ counts_compared m len planes out long each =
     ext_get_or false _ _ (omega arith) (λ i low.
     each i (omega arith) ∙ ap (nat_le m) (sym (get_or-counts_of len planes i (omega arith)))
     ∙ sym (get_or-map (λ count. nat_le m count) (counts_of len planes) i 0 false (omega arith)))
+
+-- ---- what a tally's own calls ask and keep
+pub all_long : (planes same : List (List Bool)) (len other : ℕ) → same ≡ planes → other ≡ len → All (λ (plane : List Bool). length plane ≡ len) planes
+    → All (λ (plane : List Bool). length plane ≡ other) same
+all_long planes same len other is long each = rw (is, long) each
+
+pub count_le : (added len : ℕ) (planes : List (List Bool)) (i : ℕ) → AreLaidOut added len planes → i < len → number (digits_at planes i) ≤ added
+count_le added len planes i laid low =
+    let at = get_or-counts_of len planes i low in
+    let few = laid.counted.within i in
+    omega arith
+
+pub each_added : (old new lent : List (List Bool)) (bits copied : List Bool) (len : ℕ) → lent ≡ old → copied ≡ bits → length bits ≡ len
+    → ((i : ℕ) → i < length copied → number (digits_at new i) ≡ counted (number (digits_at lent i)) (get_or copied i false))
+    → (i : ℕ) → i < len → number (digits_at new i) ≡ counted (number (digits_at old i)) (get_or bits i false)
+each_added old new lent bits copied len same copy long each i low =
+    let copy_long = ap length copy in
+    each i (omega arith)
+    ∙ ap (λ ps. counted (number (digits_at ps i)) (get_or copied i false)) same
+    ∙ ap (λ xs. counted (number (digits_at old i)) (get_or xs i false)) copy
+
+pub laid_out_added : (added len : ℕ) (old new : List (List Bool)) (bits carry : List Bool) → added + 1 < 2 ^ 32 → length bits ≡ len → length carry ≡ len
+    → length new ≡ length old → All (λ (plane : List Bool). length plane ≡ len) new
+    → ((i : ℕ) → i < len → number (digits_at new i) ≡ counted (number (digits_at old i)) (get_or bits i false))
+    → AreLaidOut added len old → AreLaidOut (added + 1) (length carry) new
+laid_out_added added len old new bits carry room long carry_long many new_long each laid =
+    let whole = counts_added len old new bits long each in
+    rw carry_long record {
+      as_many = many ∙ laid.as_many;
+      each_long = new_long;
+      counted = record {
+        countable = room;
+        within = λ i.
+            let few = counts_le (counts_of len old) bits added (long ∙ sym (length-counts_of len old)) laid.counted.within i in
+            let at = ap (λ xs. get_or xs i 0) whole in
+            omega arith;
+      };
+    }
 
 -- ---- planes with no digit set
 number_of_none : (k : ℕ) (plane : List Bool) (i : ℕ) → get_or plane i false ≡ false → number (digits_at (replicate k plane) i) ≡ 0

@@ -1,5 +1,5 @@
 -- Operations on words are tests of each bit by itself.
-use Rattle.std.proofs.Common.{◌≡◌, ℕ, zero, suc, ◌+◌, ◌-◌, ◌%◌, ◌^◌, ◌<◌, Bool, not, ◌&&◌, ◌||◌, eqb, min, max, refl, ap, ◌∙◌, arith, w64, bit_and, bit_or, bit_xor}
+use Rattle.std.proofs.Common.{◌≡◌, ℕ, zero, suc, ◌+◌, ◌-◌, ◌%◌, ◌^◌, ◌<◌, not, ◌&&◌, ◌||◌, eqb, min, max, refl, ap, ◌∙◌, arith, w64, bit_and, bit_or, bit_xor}
 use Rattle.std.specs.Int.{bit_not}
 use Rattle.std.proofs.lemmas.Nat.Bits.{bit_at-lt, bit_at_and, bit_at_or, bit_at_xor, bit_at_not}
 use Rattle.doc_bits.specs.Places.{and_not, either_not_both}

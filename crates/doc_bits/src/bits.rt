@@ -3,8 +3,8 @@ ghost use Rattle.std.specs.Prelude.{◌≡◌, ℕ, ◌<◌, ◌&&◌, ◌||◌,
 ghost use Rattle.std.specs.List.Sorted.{IsStrictlyIncreasing};
 ghost use Rattle.doc_bits.specs.Places.{zip_with, and_not, either_not_both, places_of};
 
-use crate::places::Places;
 use crate::operations::{And, AndNot, Operation, Or, Other, Xor};
+use crate::places::Places;
 use crate::words::{clear_words, combine_words, count_words, fill_words};
 use std::alloc::{AllocError, Global};
 use std::marker::Model;

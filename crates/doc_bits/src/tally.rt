@@ -85,7 +85,7 @@ fn empty_planes(alloc: Global, n: u32) -> Result<Vec<DocBits>, AllocError>
     ensures { IfOk result (λ planes. planes.items ≡ replicate 32 (replicate n false)) }
 {
     let mut planes = Vec::new(alloc);
-    for _plane in 0..32 {
+    for _plane in 0..32u32 {
         planes.push(DocBits::zeros(alloc, n)?)?;
     }
     Ok(planes)
@@ -126,8 +126,8 @@ fn compare(planes: &[DocBits], used: usize, m: u64, out: &mut DocBits)
     ensures length { length out.new ≡ length out.old }
 {
     out.fill();
-    for p in 0..used {
-        compare_plane(&planes[p], (m >> p) & 1 == 1, out);
+    for digit in 0..used {
+        compare_plane(&planes[digit], (m >> digit) & 1 == 1, out);
     }
 }
 

@@ -25,7 +25,10 @@ fn combine_chunks<O: Operation>(words: &mut [u64], chunks: &[[u64; 8]])
     ensures others { (k : ℕ) → 8 * length chunks.now ≤ k → slice_index words.new k ≡ slice_index words.old k }
 {
     for (c, chunk) in chunks.iter().enumerate() {
-        let lanes = O::lanes(u64x8::from_slice(&words[8 * c..]), u64x8::from_array(*chunk));
+        let lanes = O::lanes(
+            u64x8::from_slice(&words[8 * c..]),
+            u64x8::from_array(*chunk),
+        );
         lanes.copy_to_slice(&mut words[8 * c..]);
     }
 }

@@ -120,7 +120,10 @@ fn sets_of_each_length_are_as_plain_words(rt: HostRuntime) -> Result<(), AllocEr
         let others = drawn(rt.alloc(), n, 3, &mut random)?;
         assert!(rt; and_alike(rt.alloc(), n, &words, &others)?, "and of {n}");
         assert!(rt; or_alike(rt.alloc(), n, &words, &others)?, "or of {n}");
-        assert!(rt; and_not_alike(rt.alloc(), n, &words, &others)?, "and not of {n}");
+        assert!(rt;
+            and_not_alike(rt.alloc(), n, &words, &others)?,
+            "and not of {n}"
+        );
     }
     Ok(())
 }

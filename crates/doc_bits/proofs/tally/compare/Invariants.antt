@@ -2,7 +2,7 @@ use Rattle.std.proofs.Common.{◌≡◌, ℕ, ◌%◌, ◌^◌, ◌<◌, false, 
 use Rattle.doc_bits.specs.Planes.{number, digits_at}
 use Rattle.doc_bits.proofs.tally.compare.Given as goal
 
-abbrev pub invariant-loop-p : goal.invariant-loop-p
-invariant-loop-p l =
+abbrev pub invariant-loop-digit : goal.invariant-loop-digit
+invariant-loop-digit l =
     (length l.out ≡ length l.fn.out)
-    × ((i : ℕ) → i < length l.fn.out → slice_index_or l.out i false ≡ nat_le (l.m % 2 ^ l.p) (number (digits_at l.planes i) % 2 ^ l.p))
+    × ((i : ℕ) → i < length l.fn.out → slice_index_or l.out i false ≡ nat_le (l.m % 2 ^ l.digit) (number (digits_at l.planes i) % 2 ^ l.digit))

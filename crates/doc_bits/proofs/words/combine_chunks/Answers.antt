@@ -1,4 +1,4 @@
-use Rattle.std.proofs.Common.{◌≡◌, ℕ, ◌+◌, ◌*◌, ◌≤◌, [], length, get_or, refl, arith}
+use Rattle.std.proofs.Common.{◌≡◌, ◌+◌, ◌*◌, ◌≤◌, [], length, get_or, refl, arith}
 use Rattle.doc_bits.proofs.LaneLemmas.{chunk_first, chunk_others}
 use Rattle.doc_bits.proofs.words.combine_chunks.Goals as goal
 

@@ -1,4 +1,4 @@
-use Rattle.std.proofs.Common.{◌≡◌, ◌+◌, ◌*◌, ◌/◌, length, drop, sum_by, count_ones, sym, ap, ap₂, ◌∙◌, arith}
+use Rattle.std.proofs.Common.{◌+◌, ◌/◌, length, sum_by, count_ones, sym, ap, ap₂, ◌∙◌}
 use Rattle.doc_bits.proofs.LaneLemmas.{sum-first_chunks}
 use Rattle.doc_bits.proofs.PlaceLemmas.{length-places_of_words}
 use Rattle.doc_bits.proofs.words.count_words.Goals as goal

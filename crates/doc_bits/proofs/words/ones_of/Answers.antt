@@ -1,4 +1,4 @@
-use Rattle.std.proofs.Common.{◌≡◌, count_ones, length, map, sum_by, ◌∙◌, arith}
+use Rattle.std.proofs.Common.{count_ones, map, ◌∙◌, arith}
 use Rattle.std.proofs.lemmas.List.{length-map}
 use Rattle.doc_bits.proofs.LaneLemmas.{sum_l-ones, sum_by-ones-le}
 use Rattle.doc_bits.proofs.words.ones_of.Goals as goal
