@@ -2,10 +2,10 @@
 """Times sets and tallies, which go by eight words at once, beside plain loops that do the same.
 
 Lays a small program beside the crates of a commit, builds it with `rt run`, and runs it RUNS times. The program makes
-sets of 1,000,000 documents, of which one has every third document and the other every second, and makes each call ROUNDS
-times; then it does the same with words that are taken one at a time, and with counts of 4 bytes a document. Both are
-built by the same compiler. Prints for each call the least time of one round in microseconds, by lanes and plain, and the
-quotient. The first build proves what `rt check` has not kept on this machine.
+sets of 1,000,000 documents, one of every third document and one of every second, and makes each call ROUNDS times; then
+it does the same with words that are taken one at a time, and with counts of 4 bytes a document. Both are built by the
+same compiler. Prints for each call the least time of one round in microseconds, by lanes and plain, and the quotient.
+The first build proves what `rt check` has not kept on this machine.
 
 usage: bench/lanes.py [COMMIT [ROUNDS [RUNS]]]
 """

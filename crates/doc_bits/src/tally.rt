@@ -105,7 +105,8 @@ fn add_carry(planes: &mut [DocBits], used: usize, carry: &mut DocBits)
     requires few { used ≤ 32 }
     requires long { All (λ plane. length plane ≡ length carry.old) planes.old }
     requires room { (i : ℕ) → i < length carry.old → number (digits_at planes.old i) + 1 < 2 ^ used }
-    ensures counts { (i : ℕ) → i < length carry.old → number (digits_at planes.new i) ≡ counted (number (digits_at planes.old i)) (slice_index_or carry.old i false) }
+    ensures counts { (i : ℕ) → i < length carry.old → number (digits_at planes.new i)
+        ≡ counted (number (digits_at planes.old i)) (slice_index_or carry.old i false) }
     ensures long { All (λ plane. length plane ≡ length carry.old) planes.new }
     ensures carry_long { length carry.new ≡ length carry.old }
 {
@@ -122,7 +123,8 @@ fn compare(planes: &[DocBits], used: usize, m: u64, out: &mut DocBits)
     requires long { All (λ plane. length plane ≡ length out.old) planes.now }
     requires digits { m < 2 ^ used }
     requires room { (i : ℕ) → i < length out.old → number (digits_at planes.now i) < 2 ^ used }
-    ensures at_least { (i : ℕ) → i < length out.old → slice_index_or out.new i false ≡ nat_le m (number (digits_at planes.now i)) }
+    ensures at_least { (i : ℕ) → i < length out.old
+        → slice_index_or out.new i false ≡ nat_le m (number (digits_at planes.now i)) }
     ensures length { length out.new ≡ length out.old }
 {
     out.fill();
