@@ -1,11 +1,11 @@
 -- Bits of words, and sets that lie in words.
-use Rattle.std.proofs.Common.{◌≡◌, ℕ, zero, suc, ◌-◌, ◌*◌, ◌/◌, ◌%◌, ◌^◌, ◌<◌, ◌≤◌, ◌≢◌, Bool, true, false, not, cond, ◌&&◌, ◌||◌, eqb, List, length, get_or, min, max, sym, refl, ap, ◌∙◌, inl, inr, arith, w64, bit_and, bit_or, eq-eqb}
-use Rattle.std.specs.Int.{bit_at, bit_not}
+use Rattle.std.proofs.Common.{◌≡◌, ℕ, zero, suc, ◌*◌, ◌/◌, ◌%◌, ◌^◌, ◌<◌, ◌≤◌, ◌≢◌, Bool, true, false, cond, eqb, List, length, get_or, sym, refl, ◌∙◌, inl, inr, arith, w64, bit_or, eq-eqb}
+use Rattle.std.specs.Int.{bit_at}
 use Rattle.std.specs.List.{range_with_len}
 use Rattle.std.proofs.lemmas.Bool.{cases_lt}
 use Rattle.std.proofs.lemmas.List.{get_or_past}
-use Rattle.std.proofs.lemmas.Nat.Bits.{bit_at-zero, bit_at-lt, bit_at_and, bit_at_or, bit_at_not, bit_at_set_same, bit_at_set_other}
-use Rattle.doc_bits.specs.Places.{zip_with, and_not}
+use Rattle.std.proofs.lemmas.Nat.Bits.{bit_at-zero, bit_at-lt, bit_at_set_same, bit_at_set_other}
+use Rattle.doc_bits.specs.Places.{zip_with}
 use Rattle.doc_bits.specs.Words.{has_bit, holds_at, list_of, IsLaidOut}
 use Rattle.doc_bits.proofs.Lists.{zip_with-map, map-range_same}
 
@@ -23,42 +23,6 @@ cond-has_bit word i = of_number (bit_at word i) (bit_at-lt word i)
     of_number (suc zero) low = refl
     of_number (suc (suc x)) low = absurd (omega arith)
 
-of_min : (x y : ℕ) → x < 2 → y < 2 → eqb (min x y) 1 ≡ (eqb x 1 && eqb y 1)
-of_min zero zero low small = refl
-of_min zero (suc zero) low small = refl
-of_min (suc zero) zero low small = refl
-of_min (suc zero) (suc zero) low small = refl
-of_min (suc (suc x)) y low small = absurd (omega arith)
-of_min x (suc (suc y)) low small = absurd (omega arith)
-
-of_max : (x y : ℕ) → x < 2 → y < 2 → eqb (max x y) 1 ≡ (eqb x 1 || eqb y 1)
-of_max zero zero low small = refl
-of_max zero (suc zero) low small = refl
-of_max (suc zero) zero low small = refl
-of_max (suc zero) (suc zero) low small = refl
-of_max (suc (suc x)) y low small = absurd (omega arith)
-of_max x (suc (suc y)) low small = absurd (omega arith)
-
-of_not : (x : ℕ) → x < 2 → eqb (1 - x) 1 ≡ not (eqb x 1)
-of_not zero low = refl
-of_not (suc zero) low = refl
-of_not (suc (suc x)) low = absurd (omega arith)
-
-pub has_bit-and : (a b i : ℕ) → has_bit (bit_and a b) i ≡ (has_bit a i && has_bit b i)
-unfolding has_bit
-has_bit-and a b i = rw (bit_at_and a b i) (of_min _ _ (bit_at-lt a i) (bit_at-lt b i))
-
-pub has_bit-or : (a b i : ℕ) → has_bit (bit_or a b) i ≡ (has_bit a i || has_bit b i)
-unfolding has_bit
-has_bit-or a b i = rw (bit_at_or a b i) (of_max _ _ (bit_at-lt a i) (bit_at-lt b i))
-
-has_bit-not : (a i : ℕ) → a < 2 ^ 64 → i < 64 → has_bit (bit_not w64 a) i ≡ not (has_bit a i)
-unfolding has_bit
-has_bit-not a i fits small = rw (bit_at_not w64 a i fits small) (of_not _ (bit_at-lt a i))
-
-pub has_bit-and_not : (a b i : ℕ) → b < 2 ^ 64 → i < 64 → has_bit (bit_and a (bit_not w64 b)) i ≡ and_not (has_bit a i) (has_bit b i)
-has_bit-and_not a b i fits small = has_bit-and a (bit_not w64 b) i ∙ ap (λ v. has_bit a i && v) (has_bit-not b i fits small)
-
 pub has_bit-set_same : (word k : ℕ) → k < 64 → has_bit (bit_or word (1 * 2 ^ k % 2 ^ 64)) k ≡ true
 unfolding has_bit
 has_bit-set_same word k low = eq-eqb _ 1 (bit_at_set_same w64 word k low)
@@ -70,6 +34,13 @@ has_bit-set_other word k low i other = rw (bit_at_set_other w64 word k low i oth
 pub holds_past : (words : List ℕ) (i : ℕ) → length words ≤ i / 64 → holds_at words i ≡ false
 unfolding holds_at
 holds_past words i past = rw (get_or_past words (i / 64) 0 past) (has_bit-zero (i % 64))
+
+pub holds_none : (words : List ℕ) → ((k : ℕ) → k < length words → get_or words k 0 ≡ 0) → (i : ℕ) → holds_at words i ≡ false
+unfolding holds_at
+holds_none words none i = elim (cases_lt (i / 64) (length words)) [
+  | inl within ↦ rw (none (i / 64) within) (has_bit-zero (i % 64))
+  | inr past ↦ holds_past words i past
+]
 
 -- words that are combined one by one
 module _ (op : ℕ → ℕ → ℕ) (test : Bool → Bool → Bool) (none : test false false ≡ false)

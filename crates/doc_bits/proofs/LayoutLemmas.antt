@@ -59,23 +59,22 @@ pub record IsFull (len : ℕ) (words : List ℕ) : Type 0 where
   pub whole : (k : ℕ) → k < len / 64 → get_or words k 0 ≡ 2 ^ 64 - 1
   pub last : 0 < len % 64 → get_or words (len / 64) 0 ≡ 2 ^ (len % 64) - 1
 
-pub full_at_end : (len : ℕ) → len % 64 ≡ 0 → IsFull len (replicate ((len + 63) / 64) (2 ^ 64 - 1))
-full_at_end len even = record {
-  as_many = length-replicate {A = ℕ} ((len + 63) / 64) (2 ^ 64 - 1);
-  whole = λ k low. get_or-replicate ((len + 63) / 64) k (2 ^ 64 - 1) 0 (omega arith);
+pub full_at_end : (len : ℕ) (words : List ℕ) → length words ≡ (len + 63) / 64 → ((k : ℕ) → k < length words → get_or words k 0 ≡ 2 ^ 64 - 1)
+    → len % 64 ≡ 0 → IsFull len words
+full_at_end len words long each even = record {
+  as_many = long;
+  whole = λ k low. each k (omega arith);
   last = λ odd. absurd (omega arith);
 }
 
-pub full_with_last : (len : ℕ) → (len % 64 ≡ 0 → ⊥)
-    → IsFull len (set (replicate ((len + 63) / 64) (2 ^ 64 - 1)) (len / 64) (1 * 2 ^ (len % 64) % 2 ^ 64 - 1))
-full_with_last len odd =
-    let words : List ℕ = replicate ((len + 63) / 64) (2 ^ 64 - 1) in
-    let long : length words ≡ (len + 63) / 64 = length-replicate {A = ℕ} ((len + 63) / 64) (2 ^ 64 - 1) in
+pub full_with_last : (len : ℕ) (words : List ℕ) → length words ≡ (len + 63) / 64 → ((k : ℕ) → k < length words → get_or words k 0 ≡ 2 ^ 64 - 1)
+    → (len % 64 ≡ 0 → ⊥) → IsFull len (set words (len / 64) (1 * 2 ^ (len % 64) % 2 ^ 64 - 1))
+full_with_last len words long each odd =
     let some : 0 < len % 64 = omega (arith, odd) in
     let last : 1 * 2 ^ (len % 64) % 2 ^ 64 ≡ 2 ^ (len % 64) = one_shl (len % 64) 64 (omega arith) in
     record {
       as_many = length-set words (len / 64) (1 * 2 ^ (len % 64) % 2 ^ 64 - 1) ∙ long;
-      whole = λ k low. get_or-set_other words (len / 64) k (1 * 2 ^ (len % 64) % 2 ^ 64 - 1) 0 (λ e. omega (arith, e)) ∙ get_or-replicate ((len + 63) / 64) k (2 ^ 64 - 1) 0 (omega arith);
+      whole = λ k low. get_or-set_other words (len / 64) k (1 * 2 ^ (len % 64) % 2 ^ 64 - 1) 0 (λ e. omega (arith, e)) ∙ each k (omega arith);
       last = λ _. get_or-set_same words (len / 64) (1 * 2 ^ (len % 64) % 2 ^ 64 - 1) 0 (omega arith) ∙ ap (λ x. x - 1) last;
     }
 

@@ -1,7 +1,7 @@
 -- Lists that are made place by place, and what a test keeps of a run of numbers.
 use Rattle.std.proofs.Common.{◌≡◌, ℕ, suc, zero, ◌+◌, ◌<◌, ◌≤◌, ◌≢◌, Bool, true, false, cond, List, [], ◌∷◌, ◌++◌, length, get_or, map, filter, replicate, sym, refl, ap, ap₂, ◌∙◌, arith}
 use Rattle.std.specs.List.{range_with_len}
-use Rattle.doc_bits.specs.Places.{zip_with}
+use Rattle.doc_bits.specs.Places.{zip_with, second}
 
 pub zip_with-map : {V A B C : Type 0} (f : A → B → C) (g : V → A) (h : V → B) (xs : List V)
     → zip_with f (map g xs) (map h xs) ≡ map (λ x. f (g x) (h x)) xs
@@ -93,3 +93,9 @@ get_or-zip_with f (x ∷ xs) (y ∷ ys) (suc i) c d e low short = get_or-zip_wit
 pub map_of_one : {X : Type 0} (f : ℕ → X) (x : X) (ns : List ℕ) → ((i : ℕ) → i < length ns → f (get_or ns i 0) ≡ x) → map f ns ≡ replicate (length ns) x
 map_of_one f x [] each = refl
 map_of_one f x (n ∷ ns) each = ap₂ ◌∷◌ (each 0 (omega arith)) (map_of_one f x ns (λ i low. each (suc i) (omega arith)))
+
+pub zip_with_second : (xs ys : List Bool) → length xs ≡ length ys → zip_with second xs ys ≡ ys
+zip_with_second [] [] same = refl
+zip_with_second [] (y ∷ ys) same = absurd (omega arith)
+zip_with_second (x ∷ xs) [] same = absurd (omega arith)
+zip_with_second (x ∷ xs) (y ∷ ys) same = ap (λ t. y ∷ t) (zip_with_second xs ys (omega arith))

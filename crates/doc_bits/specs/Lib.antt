@@ -1,3 +1,5 @@
 pub mod Places
 pub mod Counts
+pub mod Planes
 pub mod Words
+pub mod Bits

@@ -1,11 +1,15 @@
 -- How a set lies in words of 64 bits: place i is bit i % 64 of word i / 64.
-use Rattle.std.specs.Prelude.{◌≡◌, ℕ, ◌+◌, ◌-◌, ◌/◌, ◌%◌, ◌^◌, ◌<◌, ◌≤◌, ◌==◌, Bool, false, List, [], ◌∷◌, ◌++◌, length, map, filter, slice_index}
+use Rattle.std.specs.Prelude.{◌≡◌, ℕ, ◌+◌, ◌-◌, ◌/◌, ◌%◌, ◌^◌, ◌<◌, ◌≤◌, ◌==◌, Bool, false, List, [], ◌∷◌, ◌++◌, length, map, filter, slice_index, slice_index_or}
 use Rattle.std.specs.Int.{bit_at}
 use Rattle.std.specs.List.{range_with_len}
 
 -- whether the word has the bit
 unfoldable pub has_bit : ℕ → ℕ → Bool
 has_bit word i = bit_at word i == 1
+
+-- word k of words in chunks of eight
+unfoldable pub word_of : List (List ℕ) → ℕ → ℕ
+word_of chunks k = slice_index (slice_index_or chunks (k / 8) []) (k % 8)
 
 -- whether place i of the words holds true
 unfoldable pub holds_at : List ℕ → ℕ → Bool

@@ -1,10 +1,11 @@
 // A set of documents, one bit each.
-ghost use Rattle.std.specs.Prelude.{◌≡◌, ℕ, ◌<◌, ◌&&◌, ◌||◌, List, Bool, true, false, Some, length, map, nat_le, replicate, All, IfOk, slice_get, slice_set};
+ghost use Rattle.std.specs.Prelude.{◌≡◌, ℕ, ◌<◌, ◌&&◌, ◌||◌, List, Bool, true, false, Some, length, replicate, All, IfOk, slice_get, slice_set};
 ghost use Rattle.std.specs.List.Sorted.{IsStrictlyIncreasing};
-ghost use Rattle.doc_bits.specs.Places.{zip_with, and_not, places_of};
+ghost use Rattle.doc_bits.specs.Places.{zip_with, and_not, either_not_both, places_of};
 
+use crate::operations::{And, AndNot, Operation, Or, Other, Xor};
 use crate::places::Places;
-use crate::words::{and_not_words, and_words, count_words, fill_at_least, or_words};
+use crate::words::{clear_words, combine_words, count_words, fill_words};
 use std::alloc::{AllocError, Global};
 use std::marker::Model;
 
@@ -40,11 +41,9 @@ impl DocBits {
     pub fn ones(alloc: Global, n: u32) -> Result<DocBits, AllocError>
         ensures { IfOk result (λ bits. bits ≡ replicate n true) }
     {
-        let mut words = vec![in alloc; u64::MAX; (n as usize + 63) / 64]?;
-        if n % 64 != 0 {
-            words[(n / 64) as usize] = (1 << (n % 64)) - 1;
-        }
-        Ok(DocBits { words, len: n })
+        let mut bits = DocBits::zeros(alloc, n)?;
+        bits.fill();
+        Ok(bits)
     }
 
     /// How many documents there are, in the set or not.
@@ -76,7 +75,7 @@ impl DocBits {
         ensures places { self.new ≡ zip_with ◌&&◌ self.old other.now }
         ensures length { length self.new ≡ length self.old }
     {
-        and_words(&mut self.words, &other.words);
+        self.combine::<And>(other);
     }
 
     /// Adds the documents of the other set.
@@ -85,7 +84,7 @@ impl DocBits {
         ensures places { self.new ≡ zip_with ◌||◌ self.old other.now }
         ensures length { length self.new ≡ length self.old }
     {
-        or_words(&mut self.words, &other.words);
+        self.combine::<Or>(other);
     }
 
     /// Takes the documents of the other set away.
@@ -94,15 +93,47 @@ impl DocBits {
         ensures places { self.new ≡ zip_with and_not self.old other.now }
         ensures length { length self.new ≡ length self.old }
     {
-        and_not_words(&mut self.words, &other.words);
+        self.combine::<AndNot>(other);
     }
 
-    /// Makes it the set of the documents whose count is at least `m`.
-    pub(crate) fn fill_at_least(&mut self, counts: &[u32], m: u64)
-        requires { length self.old ≡ length counts.now }
-        ensures { self.new ≡ map (λ count. nat_le m count) counts.now }
+    /// Keeps or takes each document that is in just one of the sets.
+    pub(crate) fn xor(&mut self, other: &DocBits)
+        requires { length self.old ≡ length other.now }
+        ensures places { self.new ≡ zip_with either_not_both self.old other.now }
+        ensures length { length self.new ≡ length self.old }
     {
-        fill_at_least(&mut self.words, counts, m);
+        self.combine::<Xor>(other);
+    }
+
+    /// Makes it the other set.
+    pub(crate) fn copy_from(&mut self, other: &DocBits)
+        requires { length self.old ≡ length other.now }
+        ensures { self.new ≡ other.now }
+    {
+        self.combine::<Other>(other);
+    }
+
+    /// Combines the two sets place by place.
+    fn combine<O: Operation>(&mut self, other: &DocBits)
+        requires { length self.old ≡ length other.now }
+        ensures places { self.new ≡ zip_with O.test self.old other.now }
+        ensures length { length self.new ≡ length self.old }
+    {
+        combine_words::<O>(&mut self.words, &other.words);
+    }
+
+    /// Makes it the set of all documents.
+    pub(crate) fn fill(&mut self)
+        ensures { self.new ≡ replicate (length self.old) true }
+    {
+        fill_words(&mut self.words, self.len);
+    }
+
+    /// Makes it the empty set.
+    pub(crate) fn clear(&mut self)
+        ensures { self.new ≡ replicate (length self.old) false }
+    {
+        clear_words(&mut self.words);
     }
 
     /// How many documents are in the set.

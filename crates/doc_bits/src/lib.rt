@@ -2,6 +2,7 @@
 #![tactic(auto)]
 
 mod bits;
+mod operations;
 mod places;
 mod tally;
 mod words;

@@ -1,0 +1,13 @@
+use Rattle.std.proofs.Common.{◌≡◌, false, length, replicate, sym, ap, ◌∙◌}
+use Rattle.std.specs.Vec.{with_items}
+use Rattle.std.proofs.lemmas.List.{with_items_is}
+use Rattle.doc_bits.proofs.LayoutLemmas.{length-list_of, list_of_replicate}
+use Rattle.doc_bits.proofs.bits.DocBits.clear.Goals as goal
+
+pub returns : goal.returns
+returns c =
+    let held = ap length (sym c.self.view_is) ∙ length-list_of c.self.inside.len c.self.inside.words.items in
+    let long = c.clear_words.auto.words ∙ ap length c.deref_mut.ensures.value in
+    let items : (with_items c.self.inside.words c.clear_words.new.words).items ≡ c.clear_words.new.words =
+    with_items_is c.self.inside.words c.clear_words.new.words (long ∙ sym c.self.inside.words.ok.0) in
+    rw items (list_of_replicate false c.self.inside.len c.clear_words.new.words (λ i low. c.clear_words.ensures i) ∙ ap (λ n. replicate n false) (sym held))
