@@ -44,7 +44,11 @@ impl Model for Dictionary {
     ghost Value = { TermTable };
 
     ghost view = { λ d.
-        record { docs = d.docs; input = d.input; terms = map (named d.fields.items) (map (numbered d.names.items) d.places.items) } };
+        record {
+          docs = d.docs;
+          input = d.input;
+          terms = map (named d.fields.items) (map (numbered d.names.items) d.places.items);
+        } };
 
     ghost invariant = { λ d. ArePlaces d.input.size d.fields.items d.names.items d.places.items };
 }

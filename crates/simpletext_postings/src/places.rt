@@ -123,7 +123,8 @@ pub fn find_place(
     term: &[u8],
 ) -> Option<(u64, u64)>
     requires { ArePlaces size fields.now names.now places.now }
-    ensures found { result ≡ option_map entry_places (entry_of field.now term.now (map (named fields.now) (map (numbered names.now) places.now))) }
+    ensures found { result ≡ option_map entry_places
+        (entry_of field.now term.now (map (named fields.now) (map (numbered names.now) places.now))) }
     ensures inside { IfSome result (λ p. (p.0 ≤ p.1) × (p.1 ≤ size)) }
 {
     let _ = size;
