@@ -13,7 +13,7 @@ use Rattle.directory_input.proofs.Slices.{slice_of_window}
 use Rattle.text_lines.specs.Lines.{cut}
 use Rattle.simpletext_postings.specs.Postings.{postings}
 use Rattle.simpletext_postings.specs.Terms.{TermEntry, TermTable, IsTableOf, entry_of, entry_places, is_entry, postings_with, terms_of}
-use Rattle.simpletext_postings.specs.Places.{named, is_place, is_before, rise, differ, ArePlaces}
+use Rattle.simpletext_postings.specs.Places.{NumberedTerm, numbered, named, is_place, is_before, rise, differ, ArePlaces}
 use Rattle.simpletext_postings.specs.Entries.{listed, line_forms, IsEntryText}
 use Rattle.simpletext_postings.specs.declared.rows.Row.{Row}
 use Rattle.simpletext_postings.specs.declared.places.Place.{Place}
@@ -22,15 +22,15 @@ use Rattle.simpletext_postings.proofs.EntryRows.{entry_postings, rows_are, IsEnt
 
 -- ---- names that differ
 
-or_first : (a b : Bool) → a ≡ true → (a || b) ≡ true
+pub or_first : (a b : Bool) → a ≡ true → (a || b) ≡ true
 or_first true b h = refl
 or_first false b h = absurd (true≢false (sym h))
 
-or_second : (a b : Bool) → b ≡ true → (a || b) ≡ true
+pub or_second : (a b : Bool) → b ≡ true → (a || b) ≡ true
 or_second true b h = refl
 or_second false b h = h
 
-any_at : (f : List ℕ) (fs : List (List ℕ)) (j : ℕ) → j < length fs → f ≡ get_or fs j [] → list_any (bytes_eq f) fs ≡ true
+pub any_at : (f : List ℕ) (fs : List (List ℕ)) (j : ℕ) → j < length fs → f ≡ get_or fs j [] → list_any (bytes_eq f) fs ≡ true
 any_at f [] j lt e = absurd (omega arith)
 any_at f (g ∷ fs) zero lt e = or_first _ _ (bytes_same f g e)
 any_at f (g ∷ fs) (suc j) lt e = or_second (bytes_eq f g) (list_any (bytes_eq f) fs) (any_at f fs j (omega arith) e)
@@ -39,7 +39,7 @@ not_any : (b : Bool) → not b ≡ true → b ≡ true → true ≡ false
 not_any true h k = sym h
 not_any false h k = sym k
 
-differ_index : (fs : List (List ℕ)) (i j : ℕ) → differ fs ≡ true → i < length fs → j < length fs → get_or fs i [] ≡ get_or fs j [] → i ≡ j
+pub differ_index : (fs : List (List ℕ)) (i j : ℕ) → differ fs ≡ true → i < length fs → j < length fs → get_or fs i [] ≡ get_or fs j [] → i ≡ j
 differ_index [] i j d a b e = absurd (omega (arith, a))
 differ_index (f ∷ fs) zero zero d a b e = refl
 differ_index (f ∷ fs) zero (suc j) d a b e =
@@ -58,12 +58,12 @@ abbrev option_list : Option TermEntry → List TermEntry
 option_list None = []
 option_list (Some e) = e ∷ []
 
-before_by : (p q : Place) (b : Bool) → nat_lt p.field q.field ≡ b → p.field ≡ q.field → is_before p q ≡ true → Below p.term q.term
+pub before_by : (p q : NumberedTerm) (b : Bool) → nat_lt p.field q.field ≡ b → p.field ≡ q.field → is_before p q ≡ true → Below p.term q.term
 before_by p q true e same h = let lt : p.field < q.field = grind (arith, nat_tests) in absurd (omega arith)
 before_by p q false e same h = let own = rw e at h in (and_parts (p.field == q.field) (is_lt (slice_cmp nat_cmp p.term q.term)) own).1
 
 module _ (field term : List ℕ) (fields : List (List ℕ)) (size : ℕ) (different : differ fields ≡ true) where
-  other_by : (p q : Place) (b : Bool) → is_entry field term (named fields q) ≡ b → p.field < length fields → q.field < length fields → is_before p q ≡ true
+  other_by : (p q : NumberedTerm) (b : Bool) → is_entry field term (named fields q) ≡ b → p.field < length fields → q.field < length fields → is_before p q ≡ true
       → is_entry field term (named fields p) ≡ true → b ≡ false
   other_by p q false e a c before h = refl
   other_by p q true e a c before h =
@@ -74,14 +74,14 @@ module _ (field term : List ℕ) (fields : List (List ℕ)) (size : ℕ) (differ
       let same = differ_index fields p.field q.field different a c names in
       not_below_itself q.term (subst (λ x. Below x q.term) terms (before_by p q _ refl same before))
 
-  field_of : (p : Place) → is_place size (length fields) p ≡ true → p.field < length fields
+  pub field_of : (p : NumberedTerm) → is_place size (length fields) p ≡ true → p.field < length fields
   field_of p h =
       let outer = and_parts (nat_lt p.field (length fields) && nat_le p.from p.to) (nat_le p.to size) h in
       let inner = and_parts (nat_lt p.field (length fields)) (nat_le p.from p.to) outer.0 in
       let a = inner.0 in
       grind (arith, nat_tests)
 
-  none_after : (p : Place) (ps : List Place) → p.field < length fields → list_all (is_place size (length fields)) ps ≡ true → list_all (is_before p) ps ≡ true
+  none_after : (p : NumberedTerm) (ps : List NumberedTerm) → p.field < length fields → list_all (is_place size (length fields)) ps ≡ true → list_all (is_before p) ps ≡ true
       → is_entry field term (named fields p) ≡ true → filter (is_entry field term) (map (named fields) ps) ≡ []
   none_after p [] a inside before h = refl
   none_after p (q ∷ ps) a inside before h =
@@ -90,13 +90,13 @@ module _ (field term : List ℕ) (fields : List (List ℕ)) (size : ℕ) (differ
       let own = other_by p q _ refl a (field_of q is.0) bs.0 h in
       rw own (none_after p ps a is.1 bs.1 h)
 
-  only_by : (p : Place) (ps : List Place) (b : Bool) → is_entry field term (named fields p) ≡ b → p.field < length fields → list_all (is_place size (length fields)) ps ≡ true
+  only_by : (p : NumberedTerm) (ps : List NumberedTerm) (b : Bool) → is_entry field term (named fields p) ≡ b → p.field < length fields → list_all (is_place size (length fields)) ps ≡ true
       → list_all (is_before p) ps ≡ true → filter (is_entry field term) (map (named fields) ps) ≡ option_list (entry_of field term (map (named fields) ps))
       → filter (is_entry field term) (map (named fields) (p ∷ ps)) ≡ option_list (entry_of field term (map (named fields) (p ∷ ps)))
   only_by p ps true e a inside before ih = let none = none_after p ps a inside before e in rw (e, none) refl
   only_by p ps false e a inside before ih = rw e ih
 
-  pub only : (ps : List Place) → list_all (is_place size (length fields)) ps ≡ true → rise ps ≡ true
+  pub only : (ps : List NumberedTerm) → list_all (is_place size (length fields)) ps ≡ true → rise ps ≡ true
       → filter (is_entry field term) (map (named fields) ps) ≡ option_list (entry_of field term (map (named fields) ps))
   only [] inside rising = refl
   only (p ∷ ps) inside rising =
@@ -132,15 +132,15 @@ among : (docs : ℕ) (text field term : List ℕ) (es : List TermEntry) (e : Ter
 among docs text field term [] e h all = absurd (cc)
 among docs text field term (x ∷ es) e h all = among_by docs text field term x e es _ refl h all.0 (λ k. among docs text field term es e k all.1)
 
-module _ (bytes : ℕ → List ℕ) (t : TermTable) (docs : ℕ) (w : Window) (fields : List (List ℕ)) (places : List Place) (field term : List ℕ)
-    (is : record { docs = docs; input = w; terms = map (named fields) places } ≡ t) (kept : ArePlaces w.size fields places) (table : IsTableOf t (window_bytes bytes t.input)) where
+module _ (bytes : ℕ → List ℕ) (t : TermTable) (docs : ℕ) (w : Window) (fields : List (List ℕ)) (names : List ℕ) (places : List Place) (field term : List ℕ)
+    (is : record { docs = docs; input = w; terms = map (named fields) (map (numbered names) places) } ≡ t) (kept : ArePlaces w.size fields names places) (table : IsTableOf t (window_bytes bytes t.input)) where
   abbrev text : List ℕ
   text = window_bytes bytes t.input
 
   only_one : filter (is_entry field term) (terms_of text) ≡ option_list (entry_of field term t.terms)
   only_one =
-      let terms : map (named fields) places ≡ t.terms = ap (λ (x : TermTable). x.terms) is in
-      ap (filter (is_entry field term)) (sym table.terms ∙ sym terms) ∙ only field term fields w.size kept.different places kept.inside kept.rising
+      let terms : map (named fields) (map (numbered names) places) ≡ t.terms = ap (λ (x : TermTable). x.terms) is in
+      ap (filter (is_entry field term)) (sym table.terms ∙ sym terms) ∙ only field term fields w.size kept.different (map (numbered names) places) kept.inside kept.rising
       ∙ ap (λ es. option_list (entry_of field term es)) terms
 
   its_postings : (rows : List Row) → postings text t.docs ≡ Ok rows → (o : Option TermEntry) → entry_of field term t.terms ≡ o

@@ -3,10 +3,12 @@ pub mod Worked
 pub mod Cutting
 pub mod Rising
 pub mod Opened
+pub mod Naming
 pub mod SoFar
 pub mod Slices
 pub mod EntryRows
 pub mod Finding
+pub mod Searching
 pub mod Listing
 pub mod Digits
 pub mod LineTexts

@@ -1,6 +1,6 @@
 -- What each line of a postings text adds to the terms so far.
 use Rattle.std.proofs.Common.{arith, ◌≡◌, ℕ, zero, suc, ◌+◌, ◌<◌, ◌≤◌, length, get_or, List, [], ◌∷◌, ◌++◌, append-nil, Option, Some, None, sym, Bool, true, false, refl, ap, ap₂, ◌∙◌, subst, true≢false}
-use Rattle.std.specs.Prelude.{◌==◌, ◌&&◌, ◌||◌, not, is_some, map, nat_lt, nat_le, if◌then◌else◌}
+use Rattle.std.specs.Prelude.{◌==◌, ◌&&◌, ◌||◌, not, is_some, map, nat_lt, nat_le, option_map, if◌then◌else◌}
 use Rattle.std.specs.Ordering.{nat_cmp, is_lt}
 use Rattle.std.specs.Cmp.Lexicographic.{slice_cmp}
 use Rattle.std.specs.List.{list_all, list_any}
@@ -10,9 +10,9 @@ use Rattle.std.proofs.lemmas.Bool.Decides.{nat_tests}
 use Rattle.std.proofs.lemmas.List.{map-append, length-append}
 use Rattle.std.proofs.lemmas.List.Folds.{list_all-append, list_any-append}
 use Rattle.simpletext_postings.specs.Postings.{fields, last_field, last_term, at_end, at_field_or_term, ends_entry, may_begin_field, is_term_above, is_allowed, is_passed}
-use Rattle.simpletext_postings.specs.Places.{named, is_place, is_before, rise, differ}
+use Rattle.simpletext_postings.specs.Places.{NumberedTerm, numbered, named, is_place, is_before, rise, differ}
 use Rattle.simpletext_postings.specs.Shapes.{form_with}
-use Rattle.simpletext_postings.specs.Openings.{IsTableState, Moves, MovesBy, is_within, place_term, IsInField, IsOpeningOf, open_term, AddsTerms, is_earlier, KeepsLast, IsKept, past_after, Takes, closed_at, Closes}
+use Rattle.simpletext_postings.specs.Openings.{terms_read, term_read, IsTableState, Moves, MovesBy, is_within, place_term, IsInField, IsOpeningOf, open_term, AddsTerms, is_earlier, KeepsLast, IsKept, past_after, Takes, closed_at, Closes}
 use Rattle.simpletext_postings.specs.Forms.{Form}
 use Rattle.simpletext_postings.specs.Forms.{Field, Term, Doc, Freq, Pos, StartOffset, EndOffset, Payload, End, Checksum, Indented, Unknown}
 use Rattle.simpletext_postings.specs.declared.shape.Shape.{Shape}
@@ -87,10 +87,10 @@ pub all_more : {A : Type 0} (p q : A → Bool) → ((x : A) → p x ≡ true →
 all_more p q f [] h = refl
 all_more p q f (x ∷ xs) h = let parts = and_parts (p x) (list_all p xs) h in rw (f x parts.0) (all_more p q f xs parts.1)
 
-all_join : {A : Type 0} (p : A → Bool) (xs ys : List A) → list_all p xs ≡ true → list_all p ys ≡ true → list_all p (xs ++ ys) ≡ true
+pub all_join : {A : Type 0} (p : A → Bool) (xs ys : List A) → list_all p xs ≡ true → list_all p ys ≡ true → list_all p (xs ++ ys) ≡ true
 all_join p xs ys h k = rw (list_all-append p xs ys, h) k
 
-both : (a b : Bool) → a ≡ true → b ≡ true → (a && b) ≡ true
+pub both : (a b : Bool) → a ≡ true → b ≡ true → (a && b) ≡ true
 both true b h k = k
 both false b h k = absurd (true≢false (sym h))
 
@@ -125,7 +125,7 @@ differ_more (f ∷ fs) name d h =
 
 -- ---- places
 
-place_parts : (size n : ℕ) (p : Place) → is_place size n p ≡ true → (p.field < n) × (p.from ≤ p.to) × (p.to ≤ size)
+place_parts : (size n : ℕ) (p : NumberedTerm) → is_place size n p ≡ true → (p.field < n) × (p.from ≤ p.to) × (p.to ≤ size)
 place_parts size n p h =
     let outer = and_parts (nat_lt p.field n && nat_le p.from p.to) (nat_le p.to size) h in
     let inner = and_parts (nat_lt p.field n) (nat_le p.from p.to) outer.0 in
@@ -134,22 +134,22 @@ place_parts size n p h =
     let c = outer.1 in
     (grind (arith, nat_tests), grind (arith, nat_tests), grind (arith, nat_tests))
 
-place_of : (size n : ℕ) (p : Place) → p.field < n → p.from ≤ p.to → p.to ≤ size → is_place size n p ≡ true
+place_of : (size n : ℕ) (p : NumberedTerm) → p.field < n → p.from ≤ p.to → p.to ≤ size → is_place size n p ≡ true
 place_of size n p a b c =
     let x : nat_lt p.field n ≡ true = grind (arith, nat_tests) in
     let y : nat_le p.from p.to ≡ true = grind (arith, nat_tests) in
     let z : nat_le p.to size ≡ true = grind (arith, nat_tests) in
     both _ _ (both _ _ x y) z
 
-pub place_more : (at behind n m : ℕ) → at ≤ behind → n ≤ m → (p : Place) → is_place at n p ≡ true → is_place behind m p ≡ true
+pub place_more : (at behind n m : ℕ) → at ≤ behind → n ≤ m → (p : NumberedTerm) → is_place at n p ≡ true → is_place behind m p ≡ true
 place_more at behind n m le few p h =
     let (a, b, c) = place_parts at n p h in
     place_of behind m p (omega arith) b (omega arith)
 
-named_one : (fields : List (List ℕ)) (name : List ℕ) (p : Place) → p.field < length fields → named (fields ++ name ∷ []) p ≡ named fields p
+named_one : (fields : List (List ℕ)) (name : List ℕ) (p : NumberedTerm) → p.field < length fields → named (fields ++ name ∷ []) p ≡ named fields p
 named_one fields name p h = let e = get_or_front fields name p.field h in rw e refl
 
-named_more : (size : ℕ) (fields : List (List ℕ)) (name : List ℕ) (places : List Place) → list_all (is_place size (length fields)) places ≡ true
+named_more : (size : ℕ) (fields : List (List ℕ)) (name : List ℕ) (places : List NumberedTerm) → list_all (is_place size (length fields)) places ≡ true
     → map (named (fields ++ name ∷ [])) places ≡ map (named fields) places
 named_more size fields name [] h = refl
 named_more size fields name (p ∷ places) h =
@@ -157,27 +157,27 @@ named_more size fields name (p ∷ places) h =
     let own = place_parts size (length fields) p parts.0 in
     ap₂ (λ x xs. x ∷ xs) (named_one fields name p own.0) (named_more size fields name places parts.1)
 
-closed_one : (fields : List (List ℕ)) (term : Option Place) (at : ℕ) → map (named fields) (closed_at at term) ≡ open_term fields term at
+closed_one : (fields : List (List ℕ)) (term : Option NumberedTerm) (at : ℕ) → map (named fields) (closed_at at term) ≡ open_term fields term at
 closed_one fields None at = refl
 closed_one fields (Some p) at = refl
 
-closed_terms : (fields : List (List ℕ)) (places : List Place) (term : Option Place) (at : ℕ)
+closed_terms : (fields : List (List ℕ)) (places : List NumberedTerm) (term : Option NumberedTerm) (at : ℕ)
     → map (named fields) (places ++ closed_at at term) ≡ map (named fields) places ++ open_term fields term at
 closed_terms fields places term at = map-append (named fields) places (closed_at at term) ∙ ap (λ x. map (named fields) places ++ x) (closed_one fields term at)
 
 -- ---- places that rise
 
-rise_more : (ps : List Place) (q : Place) → rise ps ≡ true → list_all (λ p. is_before p q) ps ≡ true → rise (ps ++ q ∷ []) ≡ true
+rise_more : (ps : List NumberedTerm) (q : NumberedTerm) → rise ps ≡ true → list_all (λ p. is_before p q) ps ≡ true → rise (ps ++ q ∷ []) ≡ true
 rise_more [] q r h = refl
 rise_more (p ∷ ps) q r h =
     let rs = and_parts (list_all (is_before p) ps) (rise ps) r in
     let hs = and_parts (is_before p q) (list_all (λ x. is_before x q) ps) h in
     both _ _ (all_join (is_before p) ps (q ∷ []) rs.0 (both _ true hs.0 refl)) (rise_more ps q rs.1 hs.1)
 
-earlier_before : (p q : Place) → p.field < q.field → is_before p q ≡ true
+earlier_before : (p q : NumberedTerm) → p.field < q.field → is_before p q ≡ true
 earlier_before p q h = let t : nat_lt p.field q.field ≡ true = grind (arith, nat_tests) in first_true _ _ t
 
-lower_before : (p q : Place) → p.field ≡ q.field → Below p.term q.term → is_before p q ≡ true
+lower_before : (p q : NumberedTerm) → p.field ≡ q.field → Below p.term q.term → is_before p q ≡ true
 lower_before p q e h =
     let t : (p.field == q.field) ≡ true = grind (arith, nat_tests) in
     or_true (nat_lt p.field q.field) ((p.field == q.field) && is_lt (slice_cmp nat_cmp p.term q.term)) (both _ _ t h)
@@ -186,7 +186,7 @@ or_second : (a b : Bool) → a ≡ false → (a || b) ≡ true → b ≡ true
 or_second true b e h = absurd (true≢false e)
 or_second false b e h = h
 
-before_trans_by : (p q r : Place) (b : Bool) → nat_lt p.field q.field ≡ b → is_before p q ≡ true → q.field ≡ r.field → Below q.term r.term → is_before p r ≡ true
+before_trans_by : (p q r : NumberedTerm) (b : Bool) → nat_lt p.field q.field ≡ b → is_before p q ≡ true → q.field ≡ r.field → Below q.term r.term → is_before p r ≡ true
 before_trans_by p q r true e h same below = let lt : p.field < r.field = grind (arith, nat_tests) in earlier_before p r lt
 before_trans_by p q r false e h same below =
     let parts = and_parts (p.field == q.field) (is_lt (slice_cmp nat_cmp p.term q.term)) (or_second _ _ e h) in
@@ -194,20 +194,20 @@ before_trans_by p q r false e h same below =
     let own : p.field ≡ r.field = grind (arith, nat_tests) in
     lower_before p r own (below_trans p.term q.term r.term parts.1 below)
 
-before_trans : (p q r : Place) → q.field ≡ r.field → Below q.term r.term → is_before p q ≡ true → is_before p r ≡ true
+before_trans : (p q r : NumberedTerm) → q.field ≡ r.field → Below q.term r.term → is_before p q ≡ true → is_before p r ≡ true
 before_trans p q r same below h = before_trans_by p q r _ refl h same below
 
 -- ---- the last term, closed
 
-record AreClosed (at n : ℕ) (places : List Place) : Type 0 where
+record AreClosed (at n : ℕ) (places : List NumberedTerm) : Type 0 where
   inside : list_all (is_place at n) places ≡ true
   rising : rise places ≡ true
 
-no_term : (at n : ℕ) (places : List Place) (term : Option Place) → term ≡ None → list_all (is_place at n) places ≡ true → rise places ≡ true
+no_term : (at n : ℕ) (places : List NumberedTerm) (term : Option NumberedTerm) → term ≡ None → list_all (is_place at n) places ≡ true → rise places ≡ true
     → AreClosed at n (places ++ closed_at at term)
 no_term at n places term none i r = rw (none, append-nil places) (record { inside = i; rising = r })
 
-a_term : (at n : ℕ) (places : List Place) (term : Option Place) → KeepsLast at n places term → list_all (is_place at n) places ≡ true → rise places ≡ true
+a_term : (at n : ℕ) (places : List NumberedTerm) (term : Option NumberedTerm) → KeepsLast at n places term → list_all (is_place at n) places ≡ true → rise places ≡ true
     → AreClosed at n (places ++ closed_at at term)
 a_term at n places None k i r = no_term at n places None refl i r
 a_term at n places (Some q) k i r =
@@ -218,27 +218,34 @@ a_term at n places (Some q) k i r =
     }
 
 module _ (past : List Form) (at : ℕ) (old : Opening) (of : IsOpeningOf past old) (kept : IsKept past at old) where
-  are_closed_by : (b : Bool) → is_within past ≡ b → AreClosed at (length old.fields.items) (old.places.items ++ closed_at at old.term)
-  are_closed_by true e = a_term at (length old.fields.items) old.places.items old.term (kept.last e) kept.inside kept.rising
-  are_closed_by false e = no_term at (length old.fields.items) old.places.items old.term (of.outside e) kept.inside kept.rising
+  are_closed_by : (b : Bool) → is_within past ≡ b → AreClosed at (length old.fields.items) (terms_read old ++ closed_at at (term_read old))
+  are_closed_by true e = a_term at (length old.fields.items) (terms_read old) (term_read old) (kept.last e) kept.inside kept.rising
+  are_closed_by false e = no_term at (length old.fields.items) (terms_read old) (term_read old) (of.outside e) kept.inside kept.rising
 
-  are_closed : AreClosed at (length old.fields.items) (old.places.items ++ closed_at at old.term)
+  are_closed : AreClosed at (length old.fields.items) (terms_read old ++ closed_at at (term_read old))
   are_closed = are_closed_by _ refl
+
+no_last : (names : List ℕ) (term : Option Place) → term ≡ None → option_map (numbered names) term ≡ None
+no_last names None h = refl
+no_last names (Some p) h = absurd (cc)
+
+closed_read : {at : ℕ} {old new : Opening} → Closes at old new → term_read new ≡ None
+closed_read {new = new} closes = no_last new.names.items new.term closes.term
 
 -- ---- the line of a field
 
 module _ (docs : ℕ) (past : List Form) (name : List ℕ) (at behind : ℕ) (old closed new : Opening) (of : IsOpeningOf past old)
     (may : may_begin_field past ≡ true) (other : list_any (bytes_eq name) old.fields.items ≡ false) (closes : Closes at old closed)
-    (fields_are : new.fields.items ≡ closed.fields.items ++ name ∷ []) (places_are : new.places.items ≡ closed.places.items)
-    (field_is : new.field ≡ length closed.fields.items) (term_is : new.term ≡ closed.term) (state : IsTableState (Field name ∷ past) new.state) where
+    (fields_are : new.fields.items ≡ closed.fields.items ++ name ∷ []) (places_are : terms_read new ≡ terms_read closed)
+    (field_is : new.field ≡ length closed.fields.items) (term_is : term_read new ≡ term_read closed) (state : IsTableState (Field name ∷ past) new.state) where
   all_fields : new.fields.items ≡ old.fields.items ++ name ∷ []
   all_fields = fields_are ∙ ap (λ x. x ++ name ∷ []) closes.fields
 
-  all_places : new.places.items ≡ old.places.items ++ closed_at at old.term
+  all_places : terms_read new ≡ terms_read old ++ closed_at at (term_read old)
   all_places = places_are ∙ closes.places
 
-  none : new.term ≡ None
-  none = term_is ∙ closes.term
+  none : term_read new ≡ None
+  none = term_is ∙ closed_read closes
 
   number : new.field ≡ length old.fields.items
   number = field_is ∙ ap length closes.fields
@@ -261,10 +268,10 @@ module _ (docs : ℕ) (past : List Form) (name : List ℕ) (at behind : ℕ) (ol
     outside = λ e. absurd (true≢false e);
   }
 
-  earlier : (p : Place) → is_place at (length old.fields.items) p ≡ true → is_earlier (length new.fields.items) p ≡ true
+  earlier : (p : NumberedTerm) → is_place at (length old.fields.items) p ≡ true → is_earlier (length new.fields.items) p ≡ true
   earlier p h = let own = place_parts at (length old.fields.items) p h in let e = more_fields in let lt : p.field + 1 < length new.fields.items = omega (arith, own.0) in grind (arith, nat_tests)
 
-  keeps_none : list_all (is_earlier (length new.fields.items)) new.places.items ≡ true → KeepsLast behind (length new.fields.items) new.places.items new.term
+  keeps_none : list_all (is_earlier (length new.fields.items)) (terms_read new) ≡ true → KeepsLast behind (length new.fields.items) (terms_read new) (term_read new)
   keeps_none h = rw none h
 
   field_kept : at ≤ behind → IsKept past at old → IsKept (Field name ∷ past) behind new
@@ -284,11 +291,11 @@ module _ (docs : ℕ) (past : List Form) (name : List ℕ) (at behind : ℕ) (ol
   field_terms kept end =
       let c = are_closed past at old of kept in
       let rest = ap (λ t. open_term new.fields.items t end) none in
-      ap (λ x. map (named new.fields.items) new.places.items ++ x) rest
+      ap (λ x. map (named new.fields.items) (terms_read new) ++ x) rest
       ∙ append-nil _
       ∙ ap₂ (λ fs ps. map (named fs) ps) all_fields all_places
       ∙ named_more at old.fields.items name _ c.inside
-      ∙ closed_terms old.fields.items old.places.items old.term at
+      ∙ closed_terms old.fields.items (terms_read old) (term_read old) at
 
   pub takes_field : Takes docs past (Field name) at behind old new true
   takes_field = record {
@@ -300,21 +307,21 @@ module _ (docs : ℕ) (past : List Form) (name : List ℕ) (at behind : ℕ) (ol
 
 -- ---- the line of a term
 
-new_before : (at n : ℕ) (places : List Place) (term : Option Place) (q : Place) → KeepsLast at n places term → q.field + 1 ≡ n
+new_before : (at n : ℕ) (places : List NumberedTerm) (term : Option NumberedTerm) (q : NumberedTerm) → KeepsLast at n places term → q.field + 1 ≡ n
     → is_term_above (place_term term) q.term ≡ true → list_all (λ p. is_before p q) (places ++ closed_at at term) ≡ true
 new_before at n places None q k e above =
-    let one : (p : Place) → is_earlier n p ≡ true → is_before p q ≡ true = λ p h. (let lt : p.field < q.field = grind (arith, nat_tests) in earlier_before p q lt) in
+    let one : (p : NumberedTerm) → is_earlier n p ≡ true → is_before p q ≡ true = λ p h. (let lt : p.field < q.field = grind (arith, nat_tests) in earlier_before p q lt) in
     all_join (λ p. is_before p q) places [] (all_more (is_earlier n) (λ p. is_before p q) one places k) refl
 new_before at n places (Some r) q k e above =
     let same : r.field ≡ q.field = omega (arith, k.0) in
     all_join (λ p. is_before p q) places (record r { to = at } ∷ []) (all_more (λ p. is_before p r) (λ p. is_before p q) (λ p. before_trans p r q same above) places k.2)
     (both _ true (lower_before (record r { to = at }) q same above) refl)
 
-module _ (docs : ℕ) (past : List Form) (at behind : ℕ) (old closed new : Opening) (q : Place) (of : IsOpeningOf past old)
-    (may : (at_field_or_term past || ends_entry past) ≡ true) (above : is_term_above (place_term old.term) q.term ≡ true) (closes : Closes at old closed)
-    (fields_are : new.fields.items ≡ closed.fields.items) (places_are : new.places.items ≡ closed.places.items) (field_is : new.field ≡ closed.field)
+module _ (docs : ℕ) (past : List Form) (at behind : ℕ) (old closed new : Opening) (q : NumberedTerm) (of : IsOpeningOf past old)
+    (may : (at_field_or_term past || ends_entry past) ≡ true) (above : is_term_above (place_term (term_read old)) q.term ≡ true) (closes : Closes at old closed)
+    (fields_are : new.fields.items ≡ closed.fields.items) (places_are : terms_read new ≡ terms_read closed) (field_is : new.field ≡ closed.field)
     (own_field : q.field ≡ closed.field) (own_from : q.from ≡ behind)
-    (term_is : new.term ≡ Some q) (state : IsTableState (Term q.term ∷ past) new.state) where
+    (term_is : term_read new ≡ Some q) (state : IsTableState (Term q.term ∷ past) new.state) where
   within : is_within past ≡ true
   within = within_if (λ p. at_field_or_term p || ends_entry p) refl (λ _. refl) (λ _. refl) past may
 
@@ -324,7 +331,7 @@ module _ (docs : ℕ) (past : List Form) (at behind : ℕ) (old closed new : Ope
   term_fields : new.fields.items ≡ old.fields.items
   term_fields = fields_are ∙ closes.fields
 
-  term_places : new.places.items ≡ old.places.items ++ closed_at at old.term
+  term_places : terms_read new ≡ terms_read old ++ closed_at at (term_read old)
   term_places = places_are ∙ closes.places
 
   term_allowed : is_allowed docs past (Term q.term) ≡ true
@@ -348,7 +355,7 @@ module _ (docs : ℕ) (past : List Form) (at behind : ℕ) (old closed new : Ope
   q_number : q.field + 1 ≡ length new.fields.items
   q_number = let n = ap length term_fields in omega (arith, q_field, in_field.number)
 
-  keeps_some : list_all (λ p. is_before p q) new.places.items ≡ true → KeepsLast behind (length new.fields.items) new.places.items new.term
+  keeps_some : list_all (λ p. is_before p q) (terms_read new) ≡ true → KeepsLast behind (length new.fields.items) (terms_read new) (term_read new)
   keeps_some h = rw term_is (q_number, omega (arith, own_from), h)
 
   term_kept : at ≤ behind → IsKept past at old → IsKept (Term q.term ∷ past) behind new
@@ -363,17 +370,17 @@ module _ (docs : ℕ) (past : List Form) (at behind : ℕ) (old closed new : Ope
         rising = subst (λ ps. rise ps ≡ true) (sym term_places) c.rising;
         different = subst (λ fs. differ fs ≡ true) (sym term_fields) kept.different;
         last = λ _. keeps_some (subst (λ ps. list_all (λ p. is_before p q) ps ≡ true) (sym term_places)
-            (new_before at (length old.fields.items) old.places.items old.term q (kept.last within) number above));
+            (new_before at (length old.fields.items) (terms_read old) (term_read old) q (kept.last within) number above));
       }
 
-  new_term : (end : ℕ) → open_term new.fields.items new.term end ≡ record { field = last_field past; term = q.term; from = behind; to = end } ∷ []
+  new_term : (end : ℕ) → open_term new.fields.items (term_read new) end ≡ record { field = last_field past; term = q.term; from = behind; to = end } ∷ []
   new_term end =
       let name : get_or new.fields.items q.field [] ≡ last_field past = ap₂ (λ xs k. get_or xs k []) term_fields q_field ∙ in_field.name in
       rw (term_is, name, own_from) refl
 
   term_terms : IsKept past at old → AddsTerms past (Term q.term) at behind old new
   term_terms kept end =
-      ap₂ (λ x y. x ++ y) (ap₂ (λ fs ps. map (named fs) ps) term_fields term_places ∙ closed_terms old.fields.items old.places.items old.term at) (new_term end)
+      ap₂ (λ x y. x ++ y) (ap₂ (λ fs ps. map (named fs) ps) term_fields term_places ∙ closed_terms old.fields.items (terms_read old) (term_read old) at) (new_term end)
 
   pub takes_term : Takes docs past (Term q.term) at behind old new true
   takes_term = record {
@@ -400,18 +407,18 @@ takes_nothing docs past form at behind old new p a = record {
 -- ---- the end
 
 pub takes_end : (docs : ℕ) (past : List Form) (at behind : ℕ) (old mid new : Opening) (s : TableState) → IsOpeningOf past old → Moves docs past End s true
-    → mid.fields.items ≡ old.fields.items → mid.places.items ≡ old.places.items → mid.term ≡ old.term → mid.state ≡ s
+    → mid.fields.items ≡ old.fields.items → terms_read mid ≡ terms_read old → term_read mid ≡ term_read old → mid.state ≡ s
     → Closes at mid new → Takes docs past End at behind old new true
 takes_end docs past at behind old mid new s of moves fs ps t st closes =
     let fields_are : new.fields.items ≡ old.fields.items = closes.fields ∙ fs in
-    let places_are : new.places.items ≡ old.places.items ++ closed_at at old.term = closes.places ∙ ap₂ (λ x y. x ++ closed_at at y) ps t in
+    let places_are : terms_read new ≡ terms_read old ++ closed_at at (term_read old) = closes.places ∙ ap₂ (λ x y. x ++ closed_at at y) ps t in
     record {
       same = moves.same;
       after = λ e. record {
         state = subst (λ x. IsTableState (End ∷ past) x) (sym (closes.state ∙ st)) (moves.after refl);
         fields = fields_are ∙ of.fields;
         within = λ w. absurd (true≢false (sym w));
-        outside = λ _. closes.term;
+        outside = λ _. closed_read closes;
       };
       kept = λ e le kept.
           let c = are_closed past at old of kept in
@@ -425,26 +432,26 @@ takes_end docs past at behind old mid new s of moves fs ps t st closes =
             last = λ w. absurd (true≢false (sym w));
           };
       terms = λ e kept end.
-          ap (λ x. map (named new.fields.items) new.places.items ++ open_term new.fields.items x end) closes.term
+          ap (λ x. map (named new.fields.items) (terms_read new) ++ open_term new.fields.items x end) (closed_read closes)
           ∙ append-nil _
           ∙ ap₂ (λ x y. map (named x) y) fields_are places_are
-          ∙ closed_terms old.fields.items old.places.items old.term at;
+          ∙ closed_terms old.fields.items (terms_read old) (term_read old) at;
     }
 
 -- ---- any other line
 
-keeps_on : (at behind n : ℕ) (places : List Place) (term : Option Place) → at ≤ behind → KeepsLast at n places term → KeepsLast behind n places term
+keeps_on : (at behind n : ℕ) (places : List NumberedTerm) (term : Option NumberedTerm) → at ≤ behind → KeepsLast at n places term → KeepsLast behind n places term
 keeps_on at behind n places None le h = h
 keeps_on at behind n places (Some q) le h = (h.0, omega (arith, h.1), h.2)
 
 kept_on : (past after : List Form) (at behind : ℕ) (old new : Opening) → (is_within after ≡ true → is_within past ≡ true)
-    → new.fields.items ≡ old.fields.items → new.places.items ≡ old.places.items → new.term ≡ old.term → at ≤ behind → IsKept past at old → IsKept after behind new
+    → new.fields.items ≡ old.fields.items → terms_read new ≡ terms_read old → term_read new ≡ term_read old → at ≤ behind → IsKept past at old → IsKept after behind new
 kept_on past after at behind old new w fs ps t le kept = record {
-  inside = subst (λ xs. list_all (is_place behind (length xs)) new.places.items ≡ true) (sym fs) (subst (λ xs. list_all (is_place behind (length old.fields.items)) xs ≡ true) (sym ps)
+  inside = subst (λ xs. list_all (is_place behind (length xs)) (terms_read new) ≡ true) (sym fs) (subst (λ xs. list_all (is_place behind (length old.fields.items)) xs ≡ true) (sym ps)
       (all_more (is_place at (length old.fields.items)) (is_place behind (length old.fields.items)) (place_more at behind _ _ le (omega arith)) _ kept.inside));
   rising = subst (λ xs. rise xs ≡ true) (sym ps) kept.rising;
   different = subst (λ xs. differ xs ≡ true) (sym fs) kept.different;
-  last = λ e. rw (fs, ps, t) (keeps_on at behind (length old.fields.items) old.places.items old.term le (kept.last (w e)));
+  last = λ e. rw (fs, ps, t) (keeps_on at behind (length old.fields.items) (terms_read old) (term_read old) le (kept.last (w e)));
 }
 
 abbrev HasState : Opening → TableState → Opening
@@ -521,23 +528,27 @@ and_true : (b : Bool) → (b && true && true) ≡ b
 and_true true = refl
 and_true false = refl
 
-is_some_place : (term : Option Place) → is_some term ≡ is_some (place_term term)
+is_some_place : (term : Option NumberedTerm) → is_some term ≡ is_some (place_term term)
 is_some_place None = refl
 is_some_place (Some p) = refl
 
-passes_within : (past : List Form) (term : Option Place) → place_term term ≡ last_term past → (is_some (last_term past) && true && true) ≡ is_passed past Indented
+passes_within : (past : List Form) (term : Option NumberedTerm) → place_term term ≡ last_term past → (is_some (last_term past) && true && true) ≡ is_passed past Indented
     → is_some term ≡ is_passed past Indented
 passes_within past term same h = is_some_place term ∙ ap is_some same ∙ sym (and_true _) ∙ h
 
-passes : (past : List Form) (o : Opening) → IsOpeningOf past o → is_some o.term ≡ is_passed past Indented
+passes : (past : List Form) (o : Opening) → IsOpeningOf past o → is_some (term_read o) ≡ is_passed past Indented
 passes [] o of = let e = of.outside refl in rw e refl
 passes (End ∷ past) o of = let e = of.outside refl in rw e (sym (and_false (is_some (last_term past)) true))
 passes (Checksum ∷ past) o of = let e = of.outside refl in rw e (sym (and_false_last (is_some (last_term past)) true))
-passes (f ∷ past) o of = passes_within (f ∷ past) o.term (of.within refl).term refl
+passes (f ∷ past) o of = passes_within (f ∷ past) (term_read o) (of.within refl).term refl
+
+some_read : (names : List ℕ) (term : Option Place) → is_some (option_map (numbered names) term) ≡ is_some term
+some_read names None = refl
+some_read names (Some p) = refl
 
 pub takes_passed : (docs : ℕ) (past : List Form) (at behind : ℕ) (o : Opening) → IsOpeningOf past o → Takes docs past Indented at behind o o (is_some o.term)
 takes_passed docs past at behind o of =
-    let is = passes past o of in
+    let is = sym (some_read o.names.items o.term) ∙ passes past o of in
     let own : past_after past Indented ≡ (if is_passed past Indented then past else Indented ∷ past) = refl in
     record {
       same = is ∙ sym (or_nothing _);

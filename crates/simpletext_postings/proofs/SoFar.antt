@@ -1,6 +1,6 @@
 -- What holds while a postings text is read line by line.
 use Rattle.std.proofs.Common.{arith, ◌≡◌, ℕ, ◌+◌, ◌-◌, ◌<◌, ◌≤◌, length, List, [], ◌∷◌, ◌++◌, append_assoc, append-nil, None, sym, Bool, true, false, refl, ap, ap₂, ◌∙◌, subst, true≢false}
-use Rattle.std.specs.Prelude.{◌==◌, ◌||◌, map, nat_lt, if◌then◌else◌, Result, Ok, Err}
+use Rattle.std.specs.Prelude.{◌==◌, ◌||◌, map, nat_lt, option_map, Option, Some, if◌then◌else◌, Result, Ok, Err}
 use Rattle.std.proofs.lemmas.Bool.Decides.{nat_tests}
 use Rattle.text_lines.specs.Lines.{Taken, Cut, cut, nothing}
 use Rattle.text_lines.specs.Walks.{taken, then_lines, first_size}
@@ -10,11 +10,12 @@ use Rattle.text_lines.specs.declared.reader.LineError.{LineError}
 use Rattle.text_lines.specs.declared.reader.LineError.TheVariants.{Unended, TooLong, Bytes}
 use Rattle.simpletext_postings.specs.Postings.{form_of, last_field, at_checksum, is_allowed, is_passed, forms_after, in_front, rows_of, rows_after, postings}
 use Rattle.simpletext_postings.specs.Terms.{ends_entries, entries_end, field_after, term_at, terms_after, terms_of, Opens}
-use Rattle.simpletext_postings.specs.Places.{named, ArePlaces}
-use Rattle.simpletext_postings.specs.Openings.{IsOpeningOf, terms_with, AddsTerms, IsKept, past_after, Takes, is_within}
+use Rattle.simpletext_postings.specs.Places.{numbered, named, ArePlaces}
+use Rattle.simpletext_postings.specs.Openings.{terms_read, term_read, option_places, AreNamed, IsNamed, IsOpeningOf, terms_with, AddsTerms, IsKept, past_after, Takes, is_within}
 use Rattle.simpletext_postings.specs.Forms.{Form}
 use Rattle.simpletext_postings.specs.Forms.{Field, Term, Doc, Freq, Pos, StartOffset, EndOffset, Payload, End, Checksum, Indented, Unknown}
 use Rattle.simpletext_postings.specs.declared.rows.Row.{Row}
+use Rattle.simpletext_postings.specs.declared.places.Place.{Place}
 use Rattle.simpletext_postings.specs.declared.opening.Opening.{Opening}
 use Rattle.simpletext_postings.proofs.Opened.{all_more, place_more}
 
@@ -24,7 +25,7 @@ pub record IsSoFar (docs : ℕ) (text : List ℕ) (past : List Form) (at : ℕ) 
   pub good : (fs : List Form) → forms_after docs past at rest.lines rest.tail ≡ Ok fs → (rows : List Row) × (postings text docs ≡ Ok rows)
   pub terms : terms_with o (entries_end at rest.lines) ++ terms_after (last_field past) at rest.lines ≡ terms_of text
 
-no_terms : (o : Opening) (end : ℕ) → o.places.items ≡ [] → o.term ≡ None → terms_with o end ≡ []
+no_terms : (o : Opening) (end : ℕ) → o.places.items ≡ [] → term_read o ≡ None → terms_with o end ≡ []
 no_terms o end p t = rw (p, t) refl
 
 pub begins : (docs : ℕ) (text : List ℕ) (o : Opening) → IsOpeningOf [] o → o.places.items ≡ [] → IsSoFar docs text [] 0 (cut text) o
@@ -143,10 +144,10 @@ module _ (docs : ℕ) (text : List ℕ) (past : List Form) (at : ℕ) (rest : Li
   pub not_done : at_checksum past ≡ false → postings text docs ≡ Err at
   not_done h = so_far.bad at (at_end ∙ (rw h refl))
 
-  pub done_terms : o.term ≡ None → map (named o.fields.items) o.places.items ≡ terms_of text
+  pub done_terms : term_read o ≡ None → map (named o.fields.items) (terms_read o) ≡ terms_of text
   done_terms t =
       let e = cut_nothing rest none in
-      let ends : (terms_with o (entries_end at (cut rest).lines) ++ terms_after (last_field past) at (cut rest).lines) ≡ map (named o.fields.items) o.places.items =
+      let ends : (terms_with o (entries_end at (cut rest).lines) ++ terms_after (last_field past) at (cut rest).lines) ≡ map (named o.fields.items) (terms_read o) =
       rw (e, t) (append-nil _ ∙ append-nil _) in
       sym ends ∙ so_far.terms
 
@@ -183,9 +184,20 @@ refused T docs text past at rest o so_far (Unended p) names h = so_far.bad at (u
 
 -- ---- what is kept at the end
 
-pub are_places : (past : List Form) (at size : ℕ) (o : Opening) → at ≤ size → IsKept past at o → ArePlaces size o.fields.items o.places.items
-are_places past at size o le kept = record {
-  inside = all_more _ _ (place_more at size (length o.fields.items) (length o.fields.items) le (omega arith)) o.places.items kept.inside;
+unread : (names : List ℕ) (term : Option Place) → option_map (numbered names) term ≡ None → option_places term ≡ []
+unread names None h = refl
+unread names (Some p) h = absurd (cc)
+
+all_named : (o : Opening) → IsNamed o → term_read o ≡ None → AreNamed (length o.names.items) o.places.items
+all_named o named none =
+    subst (AreNamed (length o.names.items)) (ap (λ ps. o.places.items ++ ps) (unread o.names.items o.term none) ∙ append-nil o.places.items) named
+
+pub are_places : (past : List Form) (at size : ℕ) (o : Opening) → at ≤ size → IsKept past at o → IsNamed o → term_read o ≡ None
+    → ArePlaces size o.fields.items o.names.items o.places.items
+are_places past at size o le kept named none = let all = all_named o named none in record {
+  lie = all.lie;
+  whole = all.whole;
+  inside = all_more _ _ (place_more at size (length o.fields.items) (length o.fields.items) le (omega arith)) (terms_read o) kept.inside;
   rising = kept.rising;
   different = kept.different;
 }

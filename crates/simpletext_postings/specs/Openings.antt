@@ -1,9 +1,9 @@
 -- What a reader of a postings text keeps of the lines so far.
-use Rattle.std.specs.Prelude.{ℕ, ◌≡◌, ◌+◌, ◌≤◌, ◌&&◌, ◌||◌, ◌==◌, Bool, true, false, List, [], ◌∷◌, ◌++◌, length, map, get_or, nat_lt, Option, Some, None, if◌then◌else◌}
+use Rattle.std.specs.Prelude.{ℕ, ◌≡◌, ◌+◌, ◌≤◌, ◌&&◌, ◌||◌, ◌==◌, Bool, true, false, List, [], ◌∷◌, ◌++◌, length, map, get_or, nat_lt, Option, Some, None, option_map, if◌then◌else◌}
 use Rattle.std.specs.List.{list_all}
 use Rattle.simpletext_postings.specs.Postings.{fields, last_field, last_term, last_doc, last_position, position_count, frequency, at_start, at_field_or_term, at_term, at_doc, at_freq, at_pos, at_start_offset, at_end_offset, at_end, at_checksum, ends_position, ends_entry, is_allowed, is_passed}
 use Rattle.simpletext_postings.specs.Terms.{TermEntry}
-use Rattle.simpletext_postings.specs.Places.{named, is_place, is_before, rise, differ}
+use Rattle.simpletext_postings.specs.Places.{NumberedTerm, numbered, lies_in, lengths, named, is_place, is_before, rise, differ}
 use Rattle.simpletext_postings.specs.Shapes.{form_with}
 use Rattle.simpletext_postings.specs.Forms.{Form}
 use Rattle.simpletext_postings.specs.Forms.{Field, Term, End, Checksum}
@@ -111,29 +111,37 @@ is_within (End ∷ past) = false
 is_within (Checksum ∷ past) = false
 is_within (_ ∷ past) = true
 
-abbrev pub place_term : Option Place → Option (List ℕ)
+-- the terms whose entries have ended
+abbrev pub terms_read : Opening → List NumberedTerm
+terms_read o = map (numbered o.names.items) o.places.items
+
+-- the last term
+abbrev pub term_read : Opening → Option NumberedTerm
+term_read o = option_map (numbered o.names.items) o.term
+
+abbrev pub place_term : Option NumberedTerm → Option (List ℕ)
 place_term None = None
 place_term (Some p) = Some p.term
 
 pub record IsInField (past : List Form) (o : Opening) : Type 0 where
   pub number : o.field + 1 ≡ length o.fields.items
   pub name : get_or o.fields.items o.field [] ≡ last_field past
-  pub term : place_term o.term ≡ last_term past
+  pub term : place_term (term_read o) ≡ last_term past
 
 pub record IsOpeningOf (past : List Form) (o : Opening) : Type 0 where
   pub state : IsTableState past o.state
   pub fields : o.fields.items ≡ fields past
   pub within : is_within past ≡ true → IsInField past o
-  pub outside : is_within past ≡ false → o.term ≡ None
+  pub outside : is_within past ≡ false → term_read o ≡ None
 
 -- the last term, whose entries end at a place
-abbrev pub open_term : List (List ℕ) → Option Place → ℕ → List TermEntry
+abbrev pub open_term : List (List ℕ) → Option NumberedTerm → ℕ → List TermEntry
 open_term fields None end = []
 open_term fields (Some p) end = record { field = get_or fields p.field []; term = p.term; from = p.from; to = end } ∷ []
 
 -- the terms so far, where the entries of the last one end at a place
 abbrev pub terms_with : Opening → ℕ → List TermEntry
-terms_with o end = map (named o.fields.items) o.places.items ++ open_term o.fields.items o.term end
+terms_with o end = map (named o.fields.items) (terms_read o) ++ open_term o.fields.items (term_read o) end
 
 -- the terms after a line that begins at one place and ends before another
 abbrev pub AddsTerms : List Form → Form → (at behind : ℕ) → (old new : Opening) → Type 0
@@ -145,18 +153,18 @@ AddsTerms past _ at behind old new = (end : ℕ) → terms_with new end ≡ term
 
 -- ---- what is kept of the places
 
-abbrev pub is_earlier : ℕ → Place → Bool
+abbrev pub is_earlier : ℕ → NumberedTerm → Bool
 is_earlier fields p = nat_lt (p.field + 1) fields
 
-abbrev pub KeepsLast : (at fields : ℕ) → List Place → Option Place → Type 0
+abbrev pub KeepsLast : (at fields : ℕ) → List NumberedTerm → Option NumberedTerm → Type 0
 KeepsLast at fields places None = list_all (is_earlier fields) places ≡ true
 KeepsLast at fields places (Some q) = (q.field + 1 ≡ fields) × (q.from ≤ at) × (list_all (λ p. is_before p q) places ≡ true)
 
 pub record IsKept (past : List Form) (at : ℕ) (o : Opening) : Type 0 where
-  pub inside : list_all (is_place at (length o.fields.items)) o.places.items ≡ true
-  pub rising : rise o.places.items ≡ true
+  pub inside : list_all (is_place at (length o.fields.items)) (terms_read o) ≡ true
+  pub rising : rise (terms_read o) ≡ true
   pub different : differ o.fields.items ≡ true
-  pub last : is_within past ≡ true → KeepsLast at (length o.fields.items) o.places.items o.term
+  pub last : is_within past ≡ true → KeepsLast at (length o.fields.items) (terms_read o) (term_read o)
 
 -- the forms that stand before the next line
 abbrev pub past_after : List Form → Form → List Form
@@ -169,8 +177,20 @@ pub record Takes (docs : ℕ) (past : List Form) (form : Form) (at behind : ℕ)
   pub kept : answer ≡ true → at ≤ behind → IsKept past at old → IsKept (past_after past form) behind new
   pub terms : answer ≡ true → IsKept past at old → AddsTerms past form at behind old new
 
+abbrev pub option_places : Option Place → List Place
+option_places None = []
+option_places (Some p) = p ∷ []
+
+-- each term lies among the names, which are the bytes of the terms and no others
+pub record AreNamed (names : ℕ) (places : List Place) : Type 0 where
+  pub lie : list_all (lies_in names) places ≡ true
+  pub whole : lengths places ≡ names
+
+abbrev pub IsNamed : Opening → Type 0
+IsNamed o = AreNamed (length o.names.items) (o.places.items ++ option_places o.term)
+
 -- the entries of the last term end at a place
-abbrev pub closed_at : ℕ → Option Place → List Place
+abbrev pub closed_at : ℕ → Option NumberedTerm → List NumberedTerm
 closed_at at None = []
 closed_at at (Some p) = record p { to = at } ∷ []
 
@@ -179,5 +199,6 @@ pub record Closes (at : ℕ) (old new : Opening) : Type 0 where
   pub fields : new.fields.items ≡ old.fields.items
   pub field : new.field ≡ old.field
   pub state : new.state ≡ old.state
+  pub names : new.names.items ≡ old.names.items
   pub term : new.term ≡ None
-  pub places : new.places.items ≡ old.places.items ++ closed_at at old.term
+  pub places : terms_read new ≡ terms_read old ++ closed_at at (term_read old)

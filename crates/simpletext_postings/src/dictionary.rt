@@ -22,28 +22,35 @@ use std::marker::Model;
 use text_lines::{LineReader, TextError};
 
 /// The terms of a postings text, after Lucene SimpleText, each with the places between which the text has its entries.
-/// It keeps no postings, so its size is that of the terms. Clauses see the number of documents, the input and the list
-/// of terms.
+/// It keeps no postings, so its size is that of the terms: 32 bytes for each, and their own bytes in one block; both
+/// blocks grow as a `Vec` does. A look-up searches the terms by halves. Clauses see the number of documents, the input
+/// and the list of terms.
 #[derive(Drop)]
 pub struct Dictionary {
     alloc: Global,
     docs: u32,
     input: Input,
     fields: Vec<Text>,
+    /// The bytes of the terms, one behind the other.
+    names: Vec<u8>,
     places: Vec<Place>,
 }
 
 impl Model for Dictionary {
     ghost use Rattle.std.specs.Prelude.{map};
     ghost use Rattle.simpletext_postings.specs.Terms.{TermTable};
-    ghost use Rattle.simpletext_postings.specs.Places.{named, ArePlaces};
+    ghost use Rattle.simpletext_postings.specs.Places.{named, numbered, ArePlaces};
 
     ghost Value = { TermTable };
 
     ghost view = { λ d.
-        record { docs = d.docs; input = d.input; terms = map (named d.fields.items) d.places.items } };
+        record {
+          docs = d.docs;
+          input = d.input;
+          terms = map (named d.fields.items) (map (numbered d.names.items) d.places.items);
+        } };
 
-    ghost invariant = { λ d. ArePlaces d.input.size d.fields.items d.places.items };
+    ghost invariant = { λ d. ArePlaces d.input.size d.fields.items d.names.items d.places.items };
 }
 
 impl Dictionary {
@@ -74,6 +81,7 @@ impl Dictionary {
             docs,
             input: whole(&input),
             fields: opening.fields,
+            names: opening.names,
             places: opening.places,
         })
     }
@@ -114,7 +122,14 @@ impl Dictionary {
         ensures found { result ≡ option_map entry_places (entry_of field.now term.now self.now.terms) }
         ensures inside { IfSome result (λ p. (p.0 ≤ p.1) × (p.1 ≤ self.now.input.size)) }
     {
-        find_place(self.input.len(), &self.fields, &self.places, field, term)
+        find_place(
+            self.input.len(),
+            &self.fields,
+            &self.names,
+            &self.places,
+            field,
+            term,
+        )
     }
 }
 

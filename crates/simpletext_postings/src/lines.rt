@@ -7,7 +7,7 @@ ghost use Rattle.text_lines.specs.Readers.{FitsBytes, ReadsPieces};
 ghost use Rattle.simpletext_postings.specs.Postings.{postings};
 ghost use Rattle.simpletext_postings.specs.Terms.{Opens, terms_of};
 ghost use Rattle.simpletext_postings.specs.Places.{ArePlaces, named};
-ghost use Rattle.simpletext_postings.specs.Openings.{IsOpeningOf, IsKept};
+ghost use Rattle.simpletext_postings.specs.Openings.{IsOpeningOf, IsKept, IsNamed, terms_read};
 
 use crate::opening::Opening;
 use byte_text::Text;
@@ -27,12 +27,14 @@ pub fn read_lines<B: FileBytes>(
     requires of { IsOpeningOf [] opening.old }
     requires kept { IsKept [] 0 opening.old }
     requires none { opening.old.places.items ≡ [] }
+    requires named { IsNamed opening.old }
     ensures rows { IsTrue (B.view bytes.old).tells
         → Opens result (postings (window_bytes (B.view bytes.old).bytes reader.old.input) opening.old.docs) }
     ensures terms { IsTrue (B.view bytes.old).tells
-        → OnOk result (map (named opening.new.fields.items) opening.new.places.items
+        → OnOk result (map (named opening.new.fields.items) (terms_read opening.new)
         ≡ terms_of (window_bytes (B.view bytes.old).bytes reader.old.input)) }
-    ensures kept { OnOk result (ArePlaces reader.old.input.size opening.new.fields.items opening.new.places.items) }
+    ensures kept { OnOk result (ArePlaces reader.old.input.size opening.new.fields.items opening.new.names.items
+        opening.new.places.items) }
     ensures pieces { ReadsPieces B.goes_by reader.old.input bytes.old bytes.new }
     ensures cause { HasBytesCause (B.view bytes.old) (B.view bytes.new) (text_refusal result) }
 {

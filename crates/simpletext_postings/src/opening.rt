@@ -3,11 +3,11 @@ ghost use Rattle.std.specs.Prelude.{◌≡◌, ◌∷◌, [], ◌++◌, ℕ, Lis
 ghost use Rattle.std.specs.List.{list_any};
 ghost use Rattle.std.specs.Str.{bytes_eq};
 ghost use Rattle.simpletext_postings.specs.Postings.{is_term_above, form_of, at_checksum};
-ghost use Rattle.simpletext_postings.specs.Openings.{IsOpeningOf, IsKept, Takes, Closes, place_term};
+ghost use Rattle.simpletext_postings.specs.Openings.{IsOpeningOf, IsKept, IsNamed, Takes, Closes, term_read, place_term};
 ghost use Rattle.simpletext_postings.specs.Forms.{Form};
 ghost use Rattle.simpletext_postings.specs.Forms as form;
 
-use crate::places::Place;
+use crate::places::{Place, narrow, push_bytes};
 use crate::shape::{Shape, behind_mark, shape_of};
 use crate::table::TableState;
 use byte_text::Text;
@@ -20,10 +20,12 @@ pub struct Opening {
     alloc: Global,
     docs: u32,
     pub fields: Vec<Text>,
+    /// The bytes of the terms, one behind the other.
+    pub names: Vec<u8>,
     /// The terms whose entries have ended.
     pub places: Vec<Place>,
     /// The number of the last field.
-    field: usize,
+    field: u32,
     /// Its last term, whose entries may go on.
     term: Option<Place>,
     state: TableState,
@@ -40,15 +42,6 @@ fn has_name(fields: &[Text], name: &[u8]) -> bool
     false
 }
 
-fn is_term_above(term: &Option<Place>, name: &[u8]) -> bool
-    ensures { result ≡ is_term_above (place_term term.now) name.now }
-{
-    match term {
-        None => true,
-        Some(place) => matches!(place.term.as_bytes().cmp(name), Ordering::Less),
-    }
-}
-
 impl Opening {
     /// Before the first line, for a segment of `docs` documents.
     pub fn new(alloc: Global, docs: u32) -> Opening
@@ -56,11 +49,13 @@ impl Opening {
         ensures kept { IsKept [] 0 result }
         ensures docs { result.docs ≡ docs }
         ensures places { result.places.items ≡ [] }
+        ensures named { IsNamed result }
     {
         Opening {
             alloc,
             docs,
             fields: Vec::new(alloc),
+            names: Vec::new(alloc),
             places: Vec::new(alloc),
             field: 0,
             term: None,
@@ -68,9 +63,21 @@ impl Opening {
         }
     }
 
+    fn is_term_above(&self, name: &[u8]) -> bool
+        requires { IsNamed self.now }
+        ensures { result ≡ is_term_above (place_term (term_read self.now)) name.now }
+    {
+        match self.term {
+            None => true,
+            Some(place) => matches!(place.name(&self.names).cmp(name), Ordering::Less),
+        }
+    }
+
     /// The entries of the last term end here.
     fn close(&mut self, at: u64) -> Result<(), AllocError>
-        ensures { OnOk result (Closes at self.old self.new) }
+        requires { IsNamed self.old }
+        ensures closes { OnOk result (Closes at self.old self.new) }
+        ensures named { OnOk result (IsNamed self.new) }
     {
         if let Some(mut term) = self.term.take() {
             term.to = at;
@@ -79,8 +86,37 @@ impl Opening {
         Ok(())
     }
 
+    /// The number of the next field.
+    fn next_field(&self) -> Result<u32, AllocError>
+        ensures { IfOk result (λ n. n ≡ length self.now.fields.items) }
+    {
+        narrow(self.fields.len())
+    }
+
+    /// A term of the last field, whose bytes come behind the names and whose entries begin at `from`.
+    fn place_behind(&self, from: u64, name: &[u8]) -> Result<Place, AllocError>
+        ensures { IfOk result (λ p. p ≡ record {
+          from = from;
+          to = from;
+          start = length self.now.names.items;
+          length = length name.now;
+          field = self.now.field;
+        }) }
+    {
+        let length = narrow(name.len())?;
+        Ok(Place {
+            from,
+            to: from,
+            start: self.names.len(),
+            length,
+            field: self.field,
+        })
+    }
+
     fn begin_field(&mut self, at: u64, behind: u64, name: &[u8]) -> Result<bool, AllocError>
+        requires named { IsNamed self.old }
         ensures docs { OnOk result (self.new.docs ≡ self.old.docs) }
+        ensures named { OnOk result (IsNamed self.new) }
         ensures takes { (past : List Form) → IsOpeningOf past self.old
             → IfOk result (Takes self.old.docs past (form.Field name.now) at behind self.old self.new) }
     {
@@ -89,33 +125,34 @@ impl Opening {
             return Ok(false);
         }
         self.close(at)?;
-        self.field = self.fields.len();
+        self.field = self.next_field()?;
         self.fields.push(Text::of(self.alloc, name)?)?;
         self.state.begin_field();
         Ok(true)
     }
 
     fn begin_term(&mut self, at: u64, behind: u64, name: &[u8]) -> Result<bool, AllocError>
+        requires named { IsNamed self.old }
         ensures docs { OnOk result (self.new.docs ≡ self.old.docs) }
+        ensures named { OnOk result (IsNamed self.new) }
         ensures takes { (past : List Form) → IsOpeningOf past self.old
             → IfOk result (Takes self.old.docs past (form.Term name.now) at behind self.old self.new) }
     {
-        if !self.state.may_begin_term() || !is_term_above(&self.term, name) {
+        if !self.state.may_begin_term() || !self.is_term_above(name) {
             return Ok(false);
         }
         self.close(at)?;
-        self.term = Some(Place {
-            field: self.field,
-            term: Text::of(self.alloc, name)?,
-            from: behind,
-            to: behind,
-        });
+        let place = self.place_behind(behind, name)?;
+        push_bytes(&mut self.names, name)?;
+        self.term = Some(place);
         self.state.begin_term();
         Ok(true)
     }
 
     fn take_end(&mut self, at: u64, behind: u64) -> Result<bool, AllocError>
+        requires named { IsNamed self.old }
         ensures docs { OnOk result (self.new.docs ≡ self.old.docs) }
+        ensures named { OnOk result (IsNamed self.new) }
         ensures takes { (past : List Form) → IsOpeningOf past self.old
             → IfOk result (Takes self.old.docs past form.End at behind self.old self.new) }
     {
@@ -129,7 +166,9 @@ impl Opening {
 
     /// Takes the line of this content, which begins at `at` and ends before `behind`; false where it is not allowed.
     pub fn take(&mut self, at: u64, behind: u64, content: &[u8]) -> Result<bool, AllocError>
+        requires named { IsNamed self.old }
         ensures docs { OnOk result (self.new.docs ≡ self.old.docs) }
+        ensures named { OnOk result (IsNamed self.new) }
         ensures takes { (past : List Form) → IsOpeningOf past self.old
             → IfOk result (Takes self.old.docs past (form_of content.now) at behind self.old self.new) }
     {

@@ -21,6 +21,7 @@ loop-line-init g c =
       fits = c.requires.fits;
       input = refl;
       docs = refl;
+      named = c.requires.named;
       lines = (
         [],
         c.requires.of,
@@ -94,6 +95,7 @@ loop-line-preserved g c =
       fits = a.fits;
       input = a.input ∙ ap (moved_to c.next_in.new.self.input.position) i.input;
       docs = c.in_ok-take.ensures.docs ∙ i.docs;
+      named = c.in_ok-take.ensures.named;
       lines = (
         past_after past (form_of c.next_in.new.line.content),
         takes.after refl,

@@ -4,7 +4,7 @@ use Rattle.std.specs.Prelude.{IsTrue}
 use Rattle.directory_input.specs.Windows.{moved_to, window_bytes}
 use Rattle.text_lines.specs.Lines.{cut}
 use Rattle.text_lines.specs.Readers.{FitsBytes, ReadsPieces, rest}
-use Rattle.simpletext_postings.specs.Openings.{IsOpeningOf, IsKept}
+use Rattle.simpletext_postings.specs.Openings.{IsOpeningOf, IsKept, IsNamed}
 use Rattle.simpletext_postings.specs.Forms.{Form}
 use Rattle.simpletext_postings.proofs.SoFar.{IsSoFar}
 use Rattle.simpletext_postings.proofs.lines.read_lines.Given as goal
@@ -17,6 +17,7 @@ invariant-loop-line g l =
       fits : FitsBytes (g.B.FileBytes.view l.bytes) l.reader;
       input : l.reader.input ≡ moved_to l.reader.input.position l.fn.reader.input;
       docs : l.opening.docs ≡ l.fn.opening.docs;
+      named : IsNamed l.opening;
       lines : (past : List Form) × IsOpeningOf past l.opening × IsKept past l.reader.input.position l.opening
           × (IsTrue (g.B.FileBytes.view l.fn.bytes).tells → IsSoFar l.fn.opening.docs (window_bytes (g.B.FileBytes.view l.fn.bytes).bytes l.fn.reader.input) past l.reader.input.position (cut (rest (g.B.FileBytes.view l.fn.bytes).bytes l.reader.input)) l.opening);
     }

@@ -29,6 +29,7 @@ returns-in-Indented-clause-takes c past of =
 pub returns-in_default : goal.returns-in_default
 returns-in_default c = record {
   docs = refl;
+  named = c.requires.named;
   takes = λ past of.
       subst (λ f. Takes c.args.self.now.docs past f c.args.at c.args.behind c.args.self.now (record c.args.self.now { state = c.take.new.self }) c.take.result) c.shape_of.ensures.form
       (takes_other c.args.self.now.docs past c.shape_of.result c.args.content.now c.args.at c.args.behind c.args.self.now c.take.new.self c.take.result of

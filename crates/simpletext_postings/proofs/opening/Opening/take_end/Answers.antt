@@ -11,4 +11,4 @@ returns-then-not-take-clause-takes c past of =
 pub returns-clause-takes : goal.returns-clause-takes
 returns-clause-takes c past of =
     let moves = c.if-not-take.ensures past [] of.state in
-    takes_end c.args.self.now.docs past c.args.at c.args.behind c.args.self.now (record c.args.self.now { state = c.take.new.self }) c.close.new.self c.take.new.self of moves refl refl refl refl c.in_ok-close.ensures
+    takes_end c.args.self.now.docs past c.args.at c.args.behind c.args.self.now (record c.args.self.now { state = c.take.new.self }) c.close.new.self c.take.new.self of moves refl refl refl refl c.in_ok-close.ensures.closes
