@@ -12,13 +12,14 @@ use Rattle.mount_script.specs.declared.command.Line.{Line}
 use Rattle.mount_script.specs.declared.error.ScriptError.{ScriptError}
 use Rattle.run_setup.specs.declared.settings.RunSettings.{RunSettings}
 use Rattle.run_setup.specs.Texts.{IsRead}
-use Rattle.run_setup.specs.Words.{Command, term, run, command, has_sources, asks}
+use Rattle.run_setup.specs.Words.{Command, term, run, make, command, has_sources, asks}
 use Rattle.script_run.specs.Blocks.{alone}
 use Rattle.script_run.specs.Counters.{CoreNumbers}
 use Rattle.script_run.specs.Runs.{IsRun, outside}
 use Rattle.script_run.specs.declared.ended.Ended.{Ended}
 use Rattle.mount_tool.specs.Replies.{usage_text, error_text, run_status}
 use Rattle.mount_tool.specs.Runs.{IsNoted, IsTermRun}
+use Rattle.mount_tool.specs.Makes.{IsMakeRun}
 
 -- ---- what a call is handed
 
@@ -104,6 +105,8 @@ CallEnds tells blobs (Some (term t)) x y status =
     IsTermRun tells blobs t (first_source x.sources).faults (first_source y.sources).faults x.sink y.sink status
     × (y.text ≡ x.text) × (y.maker ≡ x.maker) × (y.clock ≡ x.clock)
 CallEnds tells blobs (Some (run s)) x y status = IsScriptRun tells blobs s x y status
+CallEnds tells blobs (Some (make m)) x y status =
+    IsMakeRun m x.maker.faults y.maker.faults x.sink y.sink x.clock y.clock status × (y.text ≡ x.text) × (y.sources ≡ x.sources)
 
 -- A call with these words, over an archive that tells or not: what is done by the words that are accepted, and how it ends.
 abbrev pub IsCall : Bool → Listing → List (List ℕ) → World → World → ℕ → Type 0

@@ -2,6 +2,8 @@
 // are the files of a folder. The words and what is written stand in docs/FORMATS.md.
 #![tactic(auto)]
 
+mod hit_sums;
+mod make;
 mod note;
 mod program;
 mod run;
