@@ -15,8 +15,9 @@ use Rattle.run_setup.specs.Words.{Command, Term, term, run, make, command, asks}
 use Rattle.mount_tool.specs.Replies.{usage_text}
 use Rattle.mount_tool.specs.Runs.{IsNoted, IsTermRun}
 use Rattle.mount_tool.specs.Makes.{IsMakeRun}
-use Rattle.mount_tool.specs.Calls.{World, world, OnlyWrote, IsScriptRun, CallEnds, IsCall, is_refused, refuses, taken_on}
+use Rattle.mount_tool.specs.Calls.{World, world, OnlyWrote, IsScriptRun, CallEnds, IsCall, is_refused, refuses, taken_on, MakeIsWhole}
 use Rattle.mount_tool.proofs.Usage.{only_refused}
+use Rattle.mount_tool.proofs.Makes.{run_whole}
 use Rattle.mount_tool.proofs.Accepted.{none_taken, term_taken, run_taken, make_taken, term_untaken, run_untaken, threads_untaken, threads_refused}
 
 -- `usage` was written
@@ -77,3 +78,9 @@ pub usage_of : {S : Type 0} (view : S → SourceView) (sources : List S) (tells 
 usage_of view sources tells blobs words text m k c y status h two =
     subst (λ n. refuses n (command words) ≡ true) (length-map sources view)
     (only_refused tells blobs (length (map view sources)) (command words) (world text m k c (map view sources)) y status h two)
+
+-- words of `make`, where nothing failed
+pub make_is_whole : MakeIsWhole
+make_is_whole tells blobs words m x y status is call frames sink =
+    let h : CallEnds tells blobs (Some (make m)) x y status = subst (λ c. CallEnds tells blobs c x y status) is call in
+    run_whole m _ _ _ _ _ _ status h.0 frames sink

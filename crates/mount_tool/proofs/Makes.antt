@@ -1,7 +1,7 @@
 -- The command `make`: what is made is few manifests within the limits, and how its run ends.
-use Rattle.std.proofs.Common.{◌≡◌, ℕ, ◌<◌, ◌≤◌, ◌*◌, ◌&&◌, ◌×◌, List, [], ◌∷◌, ◌++◌, length, map, Bool, true, false, refl, sym, ap, subst, ◌∙◌, arith}
-use Rattle.std.specs.Prelude.{filter, nat_lt, nat_le, codes, min, None, if◌then◌else◌}
-use Rattle.std.specs.List.{range_with_len}
+use Rattle.std.proofs.Common.{◌≡◌, ℕ, ◌<◌, ◌≤◌, ◌*◌, ◌&&◌, ◌==◌, List, [], ◌∷◌, ◌++◌, length, map, Bool, true, false, refl, sym, ap, subst, ◌∙◌, ◌⊎◌, inl, inr, arith}
+use Rattle.std.specs.Prelude.{filter, nat_lt, nat_le, codes, None, if◌then◌else◌}
+use Rattle.std.specs.Fmt.{decimal}
 use Rattle.std.proofs.lemmas.Bool.{false≢true}
 use Rattle.std.proofs.lemmas.Bool.Decides.{nat_tests}
 use Rattle.byte_text.specs.Counts.{Rose}
@@ -10,6 +10,7 @@ use Rattle.cache_outside.specs.Sources.{SourceView}
 use Rattle.cache_outside.specs.Frames.{MakerView}
 use Rattle.cache_outside.specs.Sinks.{SinkView}
 use Rattle.cache_outside.specs.Clocks.{ClockView}
+use Rattle.mount_manifest.specs.Parts.{parts_of}
 use Rattle.mount_script.specs.declared.command.Line.{Line}
 use Rattle.run_setup.specs.declared.make_settings.MakeSettings.{MakeSettings}
 use Rattle.run_setup.specs.Settings.{in_limits}
@@ -25,7 +26,7 @@ use Rattle.script_run.specs.declared.ended.Ended.TheVariants.{Done, SinkFault, N
 use Rattle.mount_tool.specs.Runs.{IsWritten}
 use Rattle.mount_tool.specs.Steps as steps
 use Rattle.mount_tool.specs.Steps.{BlocksEnding, BlocksEnd, BlocksEnded}
-use Rattle.mount_tool.specs.Makes.{made_line, without_frames, without_room, searched, IsMakeRun}
+use Rattle.mount_tool.specs.Makes.{MakeEnding, made_line, without_frames, without_room, searched, SearchesEnd, MakeEnds, IsMakeRun, IsMade}
 
 -- ---- the archive
 
@@ -36,7 +37,10 @@ part_of_made false rest = refl
 one_behind : (size : ℕ) (text told : List ℕ) (parts : List ℕ)
     → length (filter is_manifest (map (part_blob (made_file size) text) parts ++ (codes "mount-made", told) ∷ [])) ≡ 1
 one_behind size text told [] = refl
-one_behind size text told (k ∷ ks) = rw (part_of_made _ _) one_behind size text told ks
+one_behind size text told (k ∷ ks) =
+    let rest : Listing = filter is_manifest (map (part_blob (made_file size) text) ks ++ (codes "mount-made", told) ∷ []) in
+    ap (λ b. length (if b then part_blob (made_file size) text k ∷ rest else rest)) (part_of_made (parts_of (made_file size) == 1) (codes ".part" ++ decimal k))
+    ∙ one_behind size text told ks
 
 -- of all blobs one is a manifest
 pub few_manifests : (seed docs terms : ℕ) (blobs : Listing) → IsMadeArchive seed docs terms blobs → length (manifests blobs) ≤ 65536
@@ -128,3 +132,26 @@ pub came_to_its_end : (m : MakeSettings) (before now : MakerView) (k l : SinkVie
     → BlocksEnded false [] m.run blocks before now (outside a quiet c) (outside b quiet d) status
     → IsMakeRun m before.faults now.faults k l c d last
 came_to_its_end m before now k l c d a b blocks status total sum last is small written h = done_by m before now k l c d a b blocks status total sum last is small written h.ending h.ends
+
+-- ---- completeness
+
+written_whole : (m : MakeSettings) (k l : SinkView) (total sum status : ℕ) → IsWritten k l (made_line m total sum) 0 status → (Rose k.faults l.faults → ⊥) → IsMade m k l status
+written_whole m k l total sum status (inl h) well = inl (h.1, (total, sum, h.0))
+written_whole m k l total sum status (inr (front, inl five)) well = absurd (well five.1)
+written_whole m k l total sum status (inr (front, inr six)) well = inr six
+
+searches_whole : (m : MakeSettings) (k l : SinkView) (total sum : ℕ) (ended : Ended) (status : ℕ) → SearchesEnd m k l total sum ended status → (Rose k.faults l.faults → ⊥) → IsMade m k l status
+searches_whole m k l total sum (Done marked) status h well = written_whole m k l total sum status h well
+searches_whole m k l total sum SinkFault status h well = absurd h
+searches_whole m k l total sum NoMemory status h well = inr h.0
+
+ending_whole : (m : MakeSettings) (faults now : ℕ) (k l : SinkView) (c d : ClockView) (ending : MakeEnding) (status : ℕ) → MakeEnds m faults now k l c d ending status
+    → (Rose faults now → ⊥) → (Rose k.faults l.faults → ⊥) → IsMade m k l status
+ending_whole m faults now k l c d without_frames status h frames well = absurd (frames h.1)
+ending_whole m faults now k l c d without_room status h frames well = inr h.0
+ending_whole m faults now k l c d (searched a b numbers ended total sum) status h frames well = searches_whole m k l total sum ended status h.3 well
+
+-- a run of `make` in which nothing failed
+pub run_whole : (m : MakeSettings) (faults now : ℕ) (k l : SinkView) (c d : ClockView) (status : ℕ) → IsMakeRun m faults now k l c d status
+    → (Rose faults now → ⊥) → (Rose k.faults l.faults → ⊥) → IsMade m k l status
+run_whole m faults now k l c d status h frames well = ending_whole m faults now k l c d h.ending status h.ends frames well

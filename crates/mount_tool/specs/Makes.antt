@@ -1,9 +1,9 @@
 -- The command `make`: what is made of a number is searched, and one line says what there is and what was found.
-use Rattle.std.specs.Prelude.{ℕ, ◌≡◌, List, [], ◌++◌, length, false, codes}
+use Rattle.std.specs.Prelude.{ℕ, ◌≡◌, ◌⊎◌, List, [], ◌++◌, length, false, codes}
 use Rattle.std.specs.Fmt.{decimal}
 use Rattle.byte_text.specs.Counts.{Rose}
 use Rattle.cache_outside.specs.Clocks.{ClockView}
-use Rattle.cache_outside.specs.Sinks.{SinkView}
+use Rattle.cache_outside.specs.Sinks.{SinkView, behind}
 use Rattle.run_setup.specs.declared.make_settings.MakeSettings.{MakeSettings}
 use Rattle.shard_maker.specs.MadeRows.{made_rows}
 use Rattle.shard_maker.specs.Searches.{made_script}
@@ -55,3 +55,7 @@ MakeEnds m faults now k l c d (searched a b numbers ended total sum) status =
 pub record IsMakeRun (m : MakeSettings) (faults now : ℕ) (k l : SinkView) (c d : ClockView) (status : ℕ) : Type 0 where
   pub ending : MakeEnding
   pub ends : MakeEnds m faults now k l c d ending status
+
+-- the line was written whole, with status 0; or memory was wanted, with status 6
+abbrev pub IsMade : MakeSettings → SinkView → SinkView → ℕ → Type 0
+IsMade m k l status = ((status ≡ 0) × ((total : ℕ) × (sum : ℕ) × (l.written ≡ behind k.written (made_line m total sum)))) ⊎ (status ≡ 6)

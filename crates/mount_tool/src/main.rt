@@ -12,6 +12,7 @@ mod search;
 mod term;
 
 use cache_outside::{StdSink, Untold};
+pub use make::make_is_whole;
 use program::Handed;
 pub use run::{Outcome, mount_alone, mount_tool};
 pub use run_setup::asks_threads;

@@ -1,11 +1,9 @@
 // The command `make`: an archive that is made of a number, its searches, and a line of what there is and was found.
-ghost use Rattle.std.specs.Prelude.{◌≡◌, ◌≤◌, true, IfOk, Ok, string_bytes};
-ghost use Rattle.mount_script.specs.Scripts.{script};
-ghost use Rattle.run_setup.specs.Settings.{in_limits};
+ghost use Rattle.std.specs.Prelude.{◌≡◌, true, IfOk, string_bytes};
 ghost use Rattle.run_setup.specs.MakeSettings.{can_be_made};
-ghost use Rattle.shard_maker.specs.Searches.{made_script};
 ghost use Rattle.mount_tool.specs.Runs.{IsWritten};
 ghost use Rattle.mount_tool.specs.Makes.{IsMakeRun, made_line, postings_of};
+ghost use Rattle.mount_tool.specs.Calls.{MakeIsWhole};
 
 use crate::hit_sums::HitSums;
 use crate::script::run_blocks;
@@ -32,7 +30,9 @@ fn summary(
     let MakeSettings { docs, terms, .. } = *settings;
     let total = hits.total;
     let sum = hits.sum;
-    format!(in alloc; "made docs {docs} terms {terms} postings {postings} total {total} sum {sum}\n")
+    format!(in alloc;
+        "made docs {docs} terms {terms} postings {postings} total {total} sum {sum}\n"
+    )
 }
 
 /// Writes the line, and gives the status: 0, 5 where the sink failed, 6 for want of memory.
@@ -102,3 +102,9 @@ where
     }
     write_summary(alloc, sink, settings, postings, &hits)
 }
+
+/// A law of the top call: where the words ask for `make`, and neither the maker of frames nor the sink failed, the line
+/// is written whole, with status 0; or memory was wanted, with status 6.
+pub fn make_is_whole()
+    ensures { MakeIsWhole }
+{}

@@ -29,7 +29,13 @@ const ROWS: [Row; 7] = [
         "made docs 25 terms 4 postings 11 total 162 sum 1933\n",
     ),
     (
-        &["seed=2026", "docs=6", "terms=12", "regions=1", "region=4096"],
+        &[
+            "seed=2026",
+            "docs=6",
+            "terms=12",
+            "regions=1",
+            "region=4096",
+        ],
         "made docs 6 terms 12 postings 6 total 26 sum 107\n",
     ),
     (
@@ -37,7 +43,12 @@ const ROWS: [Row; 7] = [
         "made docs 40 terms 3 postings 5 total 107 sum 2518\n",
     ),
     (
-        &["seed=18446744073709551615", "docs=16", "terms=2", "region=4096"],
+        &[
+            "seed=18446744073709551615",
+            "docs=16",
+            "terms=2",
+            "region=4096",
+        ],
         "made docs 16 terms 2 postings 3 total 96 sum 1088\n",
     ),
 ];
@@ -83,7 +94,10 @@ fn a_small_cache(rt: HostRuntime) -> Result<(), AllocError> {
 #[test]
 fn no_sources(rt: HostRuntime) -> Result<(), AllocError> {
     let alloc = rt.alloc();
-    let words = words_of(alloc, &["make", "seed=5", "docs=1", "terms=1", "region=4096"])?;
+    let words = words_of(
+        alloc,
+        &["make", "seed=5", "docs=1", "terms=1", "region=4096"],
+    )?;
     let mut script = MemText::new(Text::new(alloc), 1, Vec::new(alloc));
     let mut frames = MemFrames::new(alloc, Vec::new(alloc));
     let mut sink = MemSink::new(alloc, 7, Vec::new(alloc));
