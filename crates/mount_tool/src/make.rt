@@ -44,7 +44,8 @@ fn write_summary<K: Sink>(
     hits: &HitSums,
 ) -> u8
     requires { postings ≡ postings_of settings.now }
-    ensures { IsWritten (K.view sink.old) (K.view sink.new) (made_line settings.now hits.now.total hits.now.sum) 0 result }
+    ensures { IsWritten (K.view sink.old) (K.view sink.new)
+        (made_line settings.now hits.now.total hits.now.sum) 0 result }
 {
     let Ok(text) = summary(alloc, settings, postings, hits) else {
         return 6;
