@@ -1,6 +1,6 @@
 -- The command `make`: what is made is few manifests within the limits, and how its run ends.
 use Rattle.std.proofs.Common.{◌≡◌, ℕ, ◌<◌, ◌≤◌, ◌*◌, ◌&&◌, ◌==◌, List, [], ◌∷◌, ◌++◌, length, map, Bool, true, false, refl, sym, ap, subst, ◌∙◌, ◌⊎◌, inl, inr, arith}
-use Rattle.std.specs.Prelude.{filter, nat_lt, nat_le, codes, None, if◌then◌else◌}
+use Rattle.std.specs.Prelude.{filter, nat_lt, nat_le, codes, None, Ok, if◌then◌else◌}
 use Rattle.std.specs.Fmt.{decimal}
 use Rattle.std.proofs.lemmas.Bool.{false≢true}
 use Rattle.std.proofs.lemmas.Bool.Decides.{nat_tests}
@@ -12,6 +12,7 @@ use Rattle.cache_outside.specs.Sinks.{SinkView}
 use Rattle.cache_outside.specs.Clocks.{ClockView}
 use Rattle.mount_manifest.specs.Parts.{parts_of}
 use Rattle.mount_script.specs.declared.command.Line.{Line}
+use Rattle.mount_script.specs.Scripts.{script}
 use Rattle.run_setup.specs.declared.make_settings.MakeSettings.{MakeSettings}
 use Rattle.run_setup.specs.Settings.{in_limits}
 use Rattle.run_setup.specs.MakeSettings.{can_be_made}
@@ -55,8 +56,8 @@ both : (a b : Bool) → (a && b) ≡ true → (a ≡ true) × (b ≡ true)
 both true b h = (refl, h)
 both false b h = absurd (false≢true h)
 
-below : (m n : ℕ) → nat_lt m n ≡ true → m < n
-below m n h = grind (arith, nat_tests)
+at_least_one : (n : ℕ) → nat_lt 0 n ≡ true → 1 ≤ n
+at_least_one n h = grind (arith, nat_tests)
 
 at_most : (m n : ℕ) → nat_le m n ≡ true → m ≤ n
 at_most m n h = grind (arith, nat_tests)
@@ -71,20 +72,24 @@ made_limits m is =
     let third = both _ _ second.0 in
     let docs = both _ _ third.1 in
     let terms = both _ _ second.1 in
-    let some_docs : 0 < m.docs = below 0 m.docs docs.0 in
-    let some_terms : 0 < m.terms = below 0 m.terms terms.0 in
     record {
-      some_docs = omega (arith, some_docs);
+      some_docs = at_least_one m.docs docs.0;
       few_docs = at_most m.docs 100000 docs.1;
-      some_terms = omega (arith, some_terms);
+      some_terms = at_least_one m.terms terms.0;
       few_terms = at_most m.terms 100000 terms.1;
       pairs = at_most (m.docs * m.terms) 4000000 first.1;
     }
 
+-- ---- the script
+
+-- the blocks that are read from the made script's text are those that are made
+pub same_blocks : (t text : List ℕ) (blocks wanted : List (List Line)) → t ≡ text → script t ≡ Ok blocks → script text ≡ Ok wanted → blocks ≡ wanted
+same_blocks t text blocks wanted same read made = cc
+
 -- ---- endings
 
 -- a sink that never fails, and tells nothing
-quiet : SinkView
+abbrev pub quiet : SinkView
 quiet = record { faults = 0; written = None }
 
 never_rose : Rose 0 0 → ⊥
@@ -103,7 +108,7 @@ cut_by m before now k c d a b blocks status is above (steps.over told numbers (D
 cut_by m before now k c d a b blocks status is above (steps.over told numbers SinkFault) h = absurd (never_rose h.2.ends.1)
 cut_by m before now k c d a b blocks status is above (steps.over told numbers NoMemory) h = record {
   ending = searched (outside a quiet c) (outside b quiet d) numbers NoMemory 0 0;
-  ends = (subst (λ s. IsRun (alone false [] m.run.regions) s (outside a quiet c) (outside b quiet d) numbers NoMemory) is h.2, refl, refl, h.0, refl);
+  ends = (subst (λ s. IsRun (alone false [] m.run.regions) s (outside a quiet c) (outside b quiet d) numbers NoMemory) is h.2, refl, refl, (h.0, refl));
 }
 
 -- the run was cut short, and nothing was written

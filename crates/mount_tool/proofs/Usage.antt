@@ -52,11 +52,11 @@ run_ends tells blobs s x y (no_frame t blocks) status h two = let f = h.1 in ome
 run_ends tells blobs s x y no_room status h two = let f = h.0 in omega (arith, f, two)
 run_ends tells blobs s x y (ran t blocks told numbers ended) status h two = ended_status ended (sym h.1 ∙ two)
 
-zero_status : 0 ≡ 2 → ⊥
-zero_status e = omega (arith, e)
+zero_status : (own : ℕ) → own ≡ 0 → own ≡ 2 → ⊥
+zero_status own zero two = omega (arith, zero, two)
 
 searches_end : (m : MakeSettings) (k l : SinkView) (total sum : ℕ) (e : Ended) (status : ℕ) → SearchesEnd m k l total sum e status → status ≡ 2 → ⊥
-searches_end m k l total sum (ended.Done marked) status h two = written_status _ _ _ 0 status h zero_status two
+searches_end m k l total sum (ended.Done marked) status h two = written_status _ _ _ 0 status h (zero_status 0 refl) two
 searches_end m k l total sum ended.SinkFault status h two = h
 searches_end m k l total sum ended.NoMemory status h two = let f = h.0 in omega (arith, f, two)
 
