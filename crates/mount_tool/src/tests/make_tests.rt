@@ -74,10 +74,10 @@ fn a_small_cache(rt: HostRuntime) -> Result<(), AllocError> {
     let words = [
         "make",
         "seed=3",
-        "docs=20000",
+        "docs=2000",
         "terms=100",
-        "regions=4",
-        "region=65536",
+        "regions=3",
+        "region=8192",
         "range=4096",
     ];
     for _ in 0..2 {
@@ -85,7 +85,7 @@ fn a_small_cache(rt: HostRuntime) -> Result<(), AllocError> {
         assert_eq!(rt; answer, 0);
         assert_eq!(rt;
             sink.written(),
-            b"made docs 20000 terms 100 postings 124906 total 77823 sum 287803\n".as_slice()
+            b"made docs 2000 terms 100 postings 12354 total 7744 sum 173928\n".as_slice()
         );
     }
     Ok(())
