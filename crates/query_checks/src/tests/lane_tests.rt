@@ -33,7 +33,7 @@ fn set_of(alloc: Global, n: u32, words: &[u64]) -> Result<DocBits, AllocError>
 {
     let mut bits = DocBits::zeros(alloc, n)?;
     for i in 0..n {
-        if plain::holds(words, i) {
+        if plain::holds(words, i as usize) {
             bits.set(i);
         }
     }
@@ -43,7 +43,7 @@ fn set_of(alloc: Global, n: u32, words: &[u64]) -> Result<DocBits, AllocError>
 // Whether the set and the words hold the same places, and as many.
 fn are_alike(bits: &DocBits, words: &[u64]) -> bool {
     for i in 0..bits.len() {
-        if bits.get(i) != plain::holds(words, i) {
+        if bits.get(i) != plain::holds(words, i as usize) {
             return false;
         }
     }

@@ -38,8 +38,8 @@ pub fn count(words: &[u64]) -> u64 {
 }
 
 /// Whether place `i` of the words holds true.
-pub fn holds(words: &[u64], i: u32) -> bool {
-    match words.get((i / 64) as usize) {
+pub fn holds(words: &[u64], i: usize) -> bool {
+    match words.get(i / 64) {
         Some(word) => (*word >> (i % 64)) & 1 == 1,
         None => false,
     }
@@ -48,7 +48,7 @@ pub fn holds(words: &[u64], i: u32) -> bool {
 /// Counts each place that holds true once more.
 pub fn add(counts: &mut [u32], words: &[u64]) {
     for i in 0..counts.len() {
-        if holds(words, i as u32) {
+        if holds(words, i) {
             counts[i] = counts[i].wrapping_add(1);
         }
     }
