@@ -13,3 +13,5 @@ mod sources;
 mod strange_files;
 #[cfg(test)]
 mod streams;
+#[cfg(test)]
+mod system;
