@@ -4,3 +4,9 @@ mod Parts
 mod Deals
 mod Joins
 mod Allows
+mod Sums
+mod Queues
+mod Together
+mod Jobs
+mod Runs
+mod Between
