@@ -537,7 +537,7 @@ mount_mounts tells blobs name manifest r q x h t = elim (mount_cases tells blobs
   | inr k ↦ one_more tells blobs name manifest r q k.0 t ∙ sym (k.1 (mounts_of r))
 ]
 
-does_live : (x y : DoorView) (given : Reply) → MountDoes x y given → (y.hold ≡ x.hold) × (y.unmounted ≡ x.unmounted)
+pub does_live : (x y : DoorView) (given : Reply) → MountDoes x y given → (y.hold ≡ x.hold) × (y.unmounted ≡ x.unmounted)
 does_live x y (reply.Mounted files docs) h = (h.hold, h.unmounted)
 does_live x y reply.Unmounted h = (ap (λ (d : DoorView). d.hold) h, ap (λ (d : DoorView). d.unmounted) h)
 does_live x y reply.Cleared h = (ap (λ (d : DoorView). d.hold) h, ap (λ (d : DoorView). d.unmounted) h)

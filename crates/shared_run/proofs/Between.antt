@@ -18,8 +18,8 @@ module _ {A F : Type 0} (told : Bool) (files : ℕ → ℕ → List ℕ) (a : Ab
   cell_kept r (Cell c, e, f) = record { cell = c; home = e; tag = f.tag; good = f.good }
 
   bytes : (k : ℕ) → 0 < k → k ≤ a.config.regions → slice_index s.words k % 2 ≡ 0 → CellKept told files s k
-  bytes zero some within free = absurd (omega (arith, some))
-  bytes (suc r) some within free = cell_kept r (h.free (suc r) within free)
+  bytes zero above within free = absurd (omega (arith, above))
+  bytes (suc r) above within free = cell_kept r (h.free (suc r) within free)
 
   by_policy : Shelved told files a s.homes 0 (slice_index s.words 0) → IsKept told files a s
   by_policy (Cell c, e, f) = absurd f

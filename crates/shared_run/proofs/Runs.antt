@@ -25,7 +25,7 @@ use Rattle.mount_script.specs.declared.reply.Reply.{Reply}
 use Rattle.mount_script.specs.declared.reply.Reply.TheVariants as reply
 use Rattle.shard_replies.specs.ExpectedReplies.{Mounts, mount_reply, used_name}
 use Rattle.script_run.specs.Mounting.{mounts_of, after_block, after_blocks, nothing_mounted}
-use Rattle.script_run.specs.Allowed.{RunSetting, Allowed, AllowedBlock, AllowedRun, near_lines, faults_of, run_faults, is_fault, Bears, is_mark, is_memory, some_reply}
+use Rattle.script_run.specs.Allowed.{RunSetting, Allowed, AllowedBlock, AllowedRun, near_lines, is_unmount_of, faults_of, run_faults, is_fault, Bears, is_mark, is_memory, some_reply}
 use Rattle.script_run.specs.Blocks.{NoMounts, Forgotten, forgets, forgets_any}
 use Rattle.script_run.specs.Clocks.{times_asked}
 use Rattle.script_run.specs.Counters.{all_replies}
@@ -77,7 +77,7 @@ module _ (tells : Bool) (blobs : Listing) (r : RosterView) (kept : IsRoster tell
   forgets_own : (c : Command) (x : Reply) → is_mount c ≡ false → ReplyKind c (mounted (used_name c) r) x → unmounts r c x m.mount ≡ true → forgets c x name ≡ true
   forgets_own c reply.Unmounted one kind u = by_name c (line_names tells blobs r kept name m is c reply.Unmounted one kind u)
     where
-      by_name : (c : Command) → _ → forgets c reply.Unmounted name ≡ true
+      by_name : (c : Command) → is_unmount_of name c ≡ true → forgets c reply.Unmounted name ≡ true
       by_name (Unmount other) e = e
       by_name (Mount other manifest) e = absurd (cc)
       by_name (Clear other) e = absurd (cc)
@@ -104,7 +104,7 @@ module _ (tells : Bool) (blobs : Listing) (r : RosterView) (kept : IsRoster tell
 
 module _ (e : Cached) (c : CacheView) (w regions : ℕ) (r q : RosterView) (block : List Line) (xs : List Reply) (before now : List SourceView) (p t : PassView)
     (kept : IsRoster e.tells e.blobs r) (plain : NoMounts block) (none : NoneGone r p) (did : BlockDid e c w r block xs before now p t) (f : Forgotten block xs r q) where
-  told : Bool
+  abbrev told : Bool
   told = e.tells && c.about.tells
 
   still : (n : ℕ) → unmounted_by r block xs n ≡ false → marks p.view.unmounted n ≡ false → marks t.view.unmounted n ≡ false
@@ -225,7 +225,7 @@ mount_bears w (suc i) x a b ss some h = (other (faults_of w (suc i) 0 (x ∷ [])
     other f n e = omega (arith, e)
 
     apart : (0 % w == suc i) ≡ false
-    apart = ap (λ (m : ℕ). m == suc i) (mod-eq_of_lt some) ∙ refl
+    apart = let none : 0 % w ≡ 0 = mod-eq_of_lt some in other_is (0 % w) (suc i) (λ e. absurd (omega (arith, none, e)))
 
     zero_faults : faults_of w (suc i) 0 (x ∷ []) ≡ 0
     zero_faults = ap {B = ℕ} (λ (b : Bool). cond (b && is_fault x) 1 0 + 0) apart

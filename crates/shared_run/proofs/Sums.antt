@@ -9,7 +9,7 @@ use Rattle.shared_run.specs.Shares.{share}
 use Rattle.shared_run.proofs.Shares.{other_is, same_is}
 
 -- c where m is one of the numbers i, i + 1, .., n of them
-hits : ℕ → ℕ → ℕ → ℕ → ℕ
+abbrev hits : ℕ → ℕ → ℕ → ℕ → ℕ
 hits m i zero c = 0
 hits m i (suc n) c = cond (m == i) c 0 + hits m (i + 1) n c
 
@@ -43,7 +43,7 @@ hits_one m i (suc n) c h k = elim (eqb_tells m i) [
 
 module _ {X : Type 0} (f : X → Bool) (w : ℕ) where
   -- how many items of the parts of workers i, i + 1, .., n of them, are so
-  pub counts : ℕ → ℕ → ℕ → List X → ℕ
+  abbrev pub counts : ℕ → ℕ → ℕ → List X → ℕ
   counts i zero k xs = 0
   counts i (suc n) k xs = count_by f (share w i k xs) + counts (i + 1) n k xs
 
@@ -70,7 +70,8 @@ module _ {X : Type 0} (f : X → Bool) (w : ℕ) where
   counts_all some k (x ∷ xs) =
       let a = front 0 w k x xs in
       let least : 0 ≤ k % w = omega arith in
-      let b = hits_one (k % w) 0 w (cond (f x) 1 0) least (mod-lt k some) in
+      let low : k % w < 0 + w = omega (arith, mod-lt k some) in
+      let b = hits_one (k % w) 0 w (cond (f x) 1 0) least low in
       let c = counts_all some (k + 1) xs in
       let d = count_front x xs in
       omega (arith, a, b, c, d)

@@ -1,5 +1,5 @@
 -- What the workers of a block did makes what the block did.
-use Rattle.std.proofs.Common.{◌≡◌, ◌≢◌, ◌∙◌, ◌≤◌, ◌<◌, ◌+◌, ◌*◌, ◌-◌, ◌^◌, ℕ, zero, suc, Bool, true, false, cond, List, [], ◌∷◌, ◌++◌, length, get_or, map, sym, ap, ap₂, subst, refl, inl, inr, arith, add-zero, mul-add, mod-lt, min}
+use Rattle.std.proofs.Common.{◌≡◌, ◌≢◌, ◌∙◌, ◌≤◌, ◌<◌, ◌+◌, ◌*◌, ◌-◌, ◌^◌, ℕ, zero, suc, Bool, true, false, cond, List, [], ◌∷◌, ◌++◌, length, get_or, map, sym, ap, ap₂, subst, refl, inl, inr, arith, add-zero, zero-add, mul-add, mod-lt, min}
 use Rattle.std.specs.Prelude.{◌==◌, ◌%◌, ◌||◌, ◌&&◌, IsTrue, Option, Some, None, count_by, sum_by}
 use Rattle.std.specs.List.{list_any}
 use Rattle.std.proofs.lemmas.Bool.Decides.{eqb_tells, leb_tells}
@@ -50,7 +50,7 @@ same_bools true b f g = sym (f refl)
 same_bools false true f g = g refl
 same_bools false false f g = refl
 
-marks_both : (xs ys : List ℕ) (n : ℕ) → marks (xs ++ ys) n ≡ (marks xs n || marks ys n)
+pub marks_both : (xs ys : List ℕ) (n : ℕ) → marks (xs ++ ys) n ≡ (marks xs n || marks ys n)
 marks_both xs ys n = list_any-append (λ (m : ℕ). n == m) xs ys
 
 source_front : (olds cs : List SourceView) (i : ℕ) → i < length olds → source_at (olds ++ cs) i ≡ source_at olds i
@@ -76,7 +76,7 @@ no_faults w i k (x ∷ xs) some h =
     omega (arith, one, rest)
 
 -- each worker's replies are its part of the replies of the block
-Fits : ℕ → ℕ → List Reply → List (List Reply) → Type 0
+abbrev Fits : ℕ → ℕ → List Reply → List (List Reply) → Type 0
 Fits w i replies [] = Unit {0}
 Fits w i replies (xs ∷ xss) = (share w i 0 replies ≡ xs) × Fits w (i + 1) replies xss
 
@@ -141,6 +141,9 @@ module _ (e : Cached) (c : CacheView) (r : RosterView) (w : ℕ) (block : List L
       where
         by_order : (i j : ℕ) → i ≤ j → i ≢ j → i + 1 ≤ j
         by_order i j h e = omega (arith, h, e)
+    one_at i (xs ∷ xss) (a ∷ olds) (b ∷ news) (None ∷ os) qs dealt ran fits h j low high = absurd dealt.0
+    one_at i (xs ∷ xss) (a ∷ olds) (b ∷ news) (Some s ∷ os) [] dealt ran fits h j low high = absurd ran
+    one_at i (xs ∷ xss) (a ∷ olds) (b ∷ news) (Some s ∷ os) (None ∷ qs) dealt ran fits h j low high = absurd ran.0
     one_at i (xs ∷ xss) olds news os qs dealt ran fits h j low high = absurd ran
 
   -- a mount that some worker unmounted
@@ -158,6 +161,9 @@ module _ (e : Cached) (c : CacheView) (r : RosterView) (w : ℕ) (block : List L
       by_new : (x y : Bool) → y ≡ false → (x || y) ≡ true → x ≡ true
       by_new true y e k = refl
       by_new false y e k = absurd (cc)
+  some_worker i (xs ∷ xss) (a ∷ olds) (b ∷ news) (None ∷ os) qs dealt ran fits n h = absurd dealt.0
+  some_worker i (xs ∷ xss) (a ∷ olds) (b ∷ news) (Some s ∷ os) [] dealt ran fits n h = absurd ran
+  some_worker i (xs ∷ xss) (a ∷ olds) (b ∷ news) (Some s ∷ os) (None ∷ qs) dealt ran fits n h = absurd ran.0
   some_worker i xss olds news os qs dealt ran fits n h = absurd ran
 
   -- ---- counts
@@ -172,6 +178,9 @@ module _ (e : Cached) (c : CacheView) (r : RosterView) (w : ℕ) (block : List L
       let here : Reaches (get t.work) (count_by f (share w i 0 replies)) = subst (λ (ys : List Reply). Reaches (get t.work) (count_by f ys)) (sym fits.0) own in
       reaches_both (get t.work) (sum_of (λ q. get q.work) qs) (count_by f (share w i 0 replies)) (counts f w (i + 1) (length xss) 0 replies) here
       (counts_reach get f none grows (i + 1) xss olds news os qs dealt.1 ran.1 fits.1)
+  counts_reach get f none grows i (xs ∷ xss) (a ∷ olds) (b ∷ news) (None ∷ os) qs dealt ran fits = absurd dealt.0
+  counts_reach get f none grows i (xs ∷ xss) (a ∷ olds) (b ∷ news) (Some s ∷ os) [] dealt ran fits = absurd ran
+  counts_reach get f none grows i (xs ∷ xss) (a ∷ olds) (b ∷ news) (Some s ∷ os) (None ∷ qs) dealt ran fits = absurd ran.0
   counts_reach get f none grows i xss olds news os qs dealt ran fits = absurd ran
 
   shares_back : (i : ℕ) (xss : List (List Reply)) (olds news : List SourceView) (os qs : List (Option PassView)) → AllDealt c p os → JobsRan e c r w i block xss olds news os qs
@@ -181,6 +190,9 @@ module _ (e : Cached) (c : CacheView) (r : RosterView) (w : ℕ) (block : List L
       let one : t.view.shares ≡ 1 = ran.0.shares ∙ ap (λ (v : _). v.shares) dealt.0.view in
       let rest = shares_back (i + 1) xss olds news os qs dealt.1 ran.1 in
       omega (arith, one, rest)
+  shares_back i (xs ∷ xss) (a ∷ olds) (b ∷ news) (None ∷ os) qs dealt ran = absurd dealt.0
+  shares_back i (xs ∷ xss) (a ∷ olds) (b ∷ news) (Some s ∷ os) [] dealt ran = absurd ran
+  shares_back i (xs ∷ xss) (a ∷ olds) (b ∷ news) (Some s ∷ os) (None ∷ qs) dealt ran = absurd ran.0
   shares_back i xss olds news os qs dealt ran = absurd ran
 
   same_sources : (i : ℕ) (xss : List (List Reply)) (olds news : List SourceView) (os qs : List (Option PassView)) → AllDealt c p os → JobsRan e c r w i block xss olds news os qs
@@ -191,6 +203,9 @@ module _ (e : Cached) (c : CacheView) (r : RosterView) (w : ℕ) (block : List L
       let m = h.1 in
       let n = h.2 in
       (ap₂ (λ (x : ℕ) (xs : List ℕ). x ∷ xs) ran.0.did.identity h.0, omega (arith, m), omega (arith, n))
+  same_sources i (xs ∷ xss) (a ∷ olds) (b ∷ news) (None ∷ os) qs dealt ran = absurd dealt.0
+  same_sources i (xs ∷ xss) (a ∷ olds) (b ∷ news) (Some s ∷ os) [] dealt ran = absurd ran
+  same_sources i (xs ∷ xss) (a ∷ olds) (b ∷ news) (Some s ∷ os) (None ∷ qs) dealt ran = absurd ran.0
   same_sources i xss olds news os qs dealt ran = absurd ran
 
   -- ---- what was taken
@@ -230,11 +245,14 @@ module _ (e : Cached) (c : CacheView) (r : RosterView) (w : ℕ) (block : List L
         where
           sums : (x y z v : ℕ) → z ≡ x + y → 0 + n + v ≤ s + x → ns ≤ ss + y → n + ns ≤ s + ss + z
           sums x y z v d f j = omega (arith, d, f, j)
+  jobs_took told i (xs ∷ xss) (a ∷ olds) (b ∷ news) (None ∷ os) qs dealt ran fits = absurd dealt.0
+  jobs_took told i (xs ∷ xss) (a ∷ olds) (b ∷ news) (Some s ∷ os) [] dealt ran fits = absurd ran
+  jobs_took told i (xs ∷ xss) (a ∷ olds) (b ∷ news) (Some s ∷ os) (None ∷ qs) dealt ran fits = absurd ran.0
   jobs_took told i xss olds news os qs dealt ran fits = absurd ran
 
 -- ---- the block
 
-no_source : SourceView
+abbrev no_source : SourceView
 no_source = record { identity = 0; faults = 0; reads = None }
 
 source_past : (ss : List SourceView) (i : ℕ) → length ss ≤ i → source_at ss i ≡ no_source
@@ -258,14 +276,14 @@ none_taken (s ∷ cs) = let h = none_taken cs in let f = sum_by-cons length (let
 module _ (e : Cached) (c : CacheView) (r : RosterView) (w : ℕ) (block : List Line) (replies : List Reply) (p q : PassView) (xss : List (List Reply)) (olds news cs : List SourceView)
     (some : 0 < w) (ran : WorkersRan e c w r block xss olds news p q) (long : length replies ≡ length block) (each : (i : ℕ) → i < w → share w i 0 replies ≡ get_or xss i []) where
   fits : Fits w 0 replies xss
-  fits = fits_from w 0 replies xss (λ j below. each j (omega (arith, below, ran.many)))
+  fits = fits_from w 0 replies xss (λ j below. ap (λ (m : ℕ). share w m 0 replies) (zero-add j) ∙ each j (omega (arith, below, ran.many)))
 
   all_same : (map (λ s. s.identity) news ≡ map (λ s. s.identity) olds) × (length olds ≡ length xss) × (length news ≡ length xss)
   all_same = same_sources e c r w block replies p 0 xss olds news ran.dealt ran.back ran.shares ran.ran
 
   worker : (j : ℕ) → j < w → One e c r w block replies p olds news ran.back j
   worker j below = one_at e c r w block replies p olds news ran.back 0 xss olds news ran.dealt ran.back ran.shares ran.ran fits
-      (record { before = λ k. refl; after = λ k. refl; gone = λ n h. h; unmounted = λ n h. h }) j (omega arith) (omega (arith, below, ran.many))
+      (record { before = λ k. ap (source_at olds) (sym (zero-add k)); after = λ k. ap (source_at news) (sym (zero-add k)); gone = λ n h. h; unmounted = λ n h. h }) j (omega arith) (omega (arith, below, ran.many))
 
   all_gone : (n : ℕ) → marks (lists_of (λ q. q.view.gone) ran.back) n ≡ true → marks q.view.gone n ≡ true
   all_gone n h = ap (λ (l : List ℕ). marks l n) ran.joined.gone ∙ marks_both p.view.gone (lists_of (λ q. q.view.gone) ran.back) n ∙ or_right _ _ h
