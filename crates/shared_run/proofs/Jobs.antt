@@ -1,5 +1,5 @@
 -- The jobs of all workers, from what holds of each.
-use Rattle.std.proofs.Common.{◌≡◌, ◌∙◌, ◌≤◌, ◌<◌, ◌+◌, ℕ, zero, suc, List, [], ◌∷◌, ◌++◌, length, map, take, get_or, sym, ap, ap₂, subst, refl, arith, add-zero}
+use Rattle.std.proofs.Common.{◌≡◌, ◌∙◌, ◌≤◌, ◌<◌, ◌+◌, ℕ, zero, suc, List, [], ◌∷◌, ◌++◌, length, map, take, drop, get_or, sym, ap, ap₂, subst, refl, arith, add-zero}
 use Rattle.std.specs.Prelude.{Vec, vec_len, vec_capacity, Option, Some, None, All}
 use Rattle.cache_outside.specs.Sources.{SourceView}
 use Rattle.cache_table.specs.Views.{CacheView, PassView}
@@ -11,6 +11,7 @@ use Rattle.shared_run.specs.Blocks.{JobsRan}
 use Rattle.shared_run.specs.Dealt.{AreRooms, AllDealt, IsDealt}
 use Rattle.shared_run.specs.Shares.{share}
 use Rattle.shared_run.specs.Workers.{JobRan, IsReady, IsIdle}
+use Rattle.shared_run.proofs.Queues.{map_at}
 
 pub map_map : {X Y Z : Type 0} (f : Y → Z) (g : X → Y) (xs : List X) → map f (map g xs) ≡ map (λ x. f (g x)) xs
 map_map f g [] = refl
@@ -55,3 +56,17 @@ room_at get w i block (j ∷ js) h zero d below = (h.0, h.1, subst (λ (m : ℕ)
 room_at get w i block (j ∷ js) h (suc k) d below =
     let rest = room_at get w (i + 1) block js h.3 k d (omega (arith, below)) in
     (rest.0, rest.1, subst (λ (m : ℕ). length (share w m 0 block) ≤ vec_capacity (get (get_or js k d))) (sym (next i k)) rest.2)
+
+-- a list that was lent whole and comes back with as many items
+pub filled : {X : Type 0} (n : ℕ) (ws xs : List X) → length ws ≡ length xs → n ≡ length xs → take n (ws ++ drop (length ws) xs) ≡ ws
+filled zero [] [] e f = refl
+filled (suc n) [] [] e f = refl
+filled n [] (x ∷ xs) e f = absurd (omega (arith, e))
+filled n (w ∷ ws) [] e f = absurd (omega (arith, e))
+filled zero (w ∷ ws) (x ∷ xs) e f = absurd (omega (arith, f))
+filled (suc n) (w ∷ ws) (x ∷ xs) e f = ap (λ (l : List _). w ∷ l) (filled n ws xs (omega (arith, e)) (omega (arith, f)))
+
+-- a number of each, in the list of all
+pub each_number : {J : Type 0} (f : J → ℕ) (h : ℕ → ℕ) (n : ℕ) (ks : List J) → length ks ≡ n → ((k : ℕ) (d : J) → k < n → f (get_or ks k d) ≡ h k) → (i : ℕ) → i < n → get_or (map f ks) i 0 ≡ h i
+each_number f h n [] e each i below = absurd (omega (arith, e, below))
+each_number f h n (j ∷ ks) e each i below = map_at f (j ∷ ks) i j 0 (omega (arith, e, below)) ∙ each i j below
