@@ -10,3 +10,4 @@ mod Together
 mod Jobs
 mod Runs
 mod Between
+mod Wholes

@@ -48,7 +48,7 @@ use Rattle.shared_run.proofs.Shares.{other_is}
 
 -- ---- a block of the workers
 
-answered_length : (tells : Bool) (blobs : Listing) (r : RosterView) (seen : ℕ → Bool) (ls : List Line) (xs : List Reply) → AllAnswered tells blobs r seen ls xs → length xs ≡ length ls
+pub answered_length : (tells : Bool) (blobs : Listing) (r : RosterView) (seen : ℕ → Bool) (ls : List Line) (xs : List Reply) → AllAnswered tells blobs r seen ls xs → length xs ≡ length ls
 answered_length tells blobs r seen [] [] h = refl
 answered_length tells blobs r seen [] (x ∷ xs) h = absurd h
 answered_length tells blobs r seen (l ∷ ls) [] h = absurd h
