@@ -25,18 +25,18 @@ use Rattle.mount_script.specs.declared.reply.Reply.{Reply}
 use Rattle.mount_script.specs.declared.reply.Reply.TheVariants as reply
 use Rattle.shard_replies.specs.ExpectedReplies.{Mounts, mount_reply, used_name}
 use Rattle.script_run.specs.Mounting.{mounts_of, after_block, after_blocks, nothing_mounted}
-use Rattle.script_run.specs.Allowed.{RunSetting, Allowed, AllowedBlock, AllowedRun, near_lines, is_unmount_of, faults_of, run_faults, is_fault, Bears, is_mark, is_memory, some_reply}
-use Rattle.script_run.specs.Blocks.{NoMounts, Forgotten, forgets, forgets_any}
+use Rattle.script_run.specs.Allowed.{RunSetting, Allowed, AllowedFrom, AllowedBlock, AllowedRun, near_lines, is_unmount_of, faults_of, run_faults, is_fault, Bears, is_mark, is_memory, some_reply}
+use Rattle.script_run.specs.Blocks.{NoMounts, IsBlock, Forgotten, forgets, forgets_any}
 use Rattle.script_run.specs.Clocks.{times_asked}
 use Rattle.script_run.specs.Counters.{all_replies}
-use Rattle.script_run.specs.Lines.{Cached, is_mount, IsAnswer}
+use Rattle.script_run.specs.Lines.{Cached, is_mount, is_shared, IsAnswer}
 use Rattle.script_run.specs.MountLines.{MountKind, RosterGoes}
 use Rattle.script_run.specs.Runs.{EndsBy, IsFront, IsDone}
 use Rattle.script_run.specs.Texts.{run_text, block_text}
 use Rattle.script_run.specs.declared.ended.Ended.{Ended}
 use Rattle.script_run.specs.declared.ended.Ended.TheVariants.{Done, SinkFault, NoMemory}
 use Rattle.script_run.proofs.Behind.{written_more, front_more, behind_nothing}
-use Rattle.script_run.proofs.Blocks.{block_makes, block_made, same_mounts, number_cond, mount_mounts, mount_cases}
+use Rattle.script_run.proofs.Blocks.{no_mounts_of, block_makes, block_made, same_mounts, number_cond, mount_mounts, mount_cases}
 use Rattle.script_run.proofs.Rosters.{mounted_with}
 use Rattle.script_run.proofs.Runs.{from_with, after_more, allowed_run, bears_add, faults_more, replies_more, some_more, count_more, many_more, clock_more, text_more, front_all, next_blocks, rose_on}
 use Rattle.shared_run.specs.Blocks.{several, source_at, BlockDid}
@@ -393,3 +393,32 @@ module _ (s : RunSetting) where
   finished script i r marked lacking a b t u p q x y e none h =
       let k = subst (λ (bs : List (List Line)). WrittenSoFar s bs r marked lacking a b t.times u.times p q x y) (ap (λ (n : ℕ). take n script) e ∙ take-length script) h in
       ended script script [] k.replies r a b x y t u u p q (Done marked) (sym (append-nil script)) k.ran (refl, k.written, k.marks, sym k.lacks ∙ none) (asked_all (length script) (Done marked) t.times u.times k.ran.clock)
+
+-- a block whose first line is no `mount` has none
+pub no_mounts_in : (ls : List Line) (l : Line) → IsBlock ls → l ≡ get_or ls 0 l → ((name manifest : List ℕ) → l.command ≡ Mount name manifest → ⊥) → NoMounts ls
+no_mounts_in [] l h is other = absurd h
+no_mounts_in (m ∷ ls) l (inl shared) is other = no_mounts_of (m ∷ ls) shared
+no_mounts_in (m ∷ ls) l (inr single) is other =
+    (only m.command single.0 (λ name manifest e. other name manifest (ap (λ (n : Line). n.command) is ∙ e)), subst NoMounts (sym single.1) (tt {0}))
+  where
+    only : (c : Command) → is_shared c ≡ false → ((name manifest : List ℕ) → c ≡ Mount name manifest → ⊥) → is_mount c ≡ false
+    only (Mount name manifest) h k = absurd (k name manifest refl)
+    only Stats h k = refl
+    only (Unmount name) h k = refl
+    only (Clear name) h k = refl
+    only Decay h k = refl
+    only (Search name size text) h k = refl
+    only (Fetch name segment doc) h k = refl
+    only (Read name file at len) h k = refl
+
+pub replies_length : (e : Cached) (c : CacheView) (w : ℕ) (r : RosterView) (block : List Line) (xs : List Reply) (before now : List SourceView) (p t : PassView) → BlockDid e c w r block xs before now p t → length xs ≡ length block
+replies_length e c w r block xs before now p t did = answered_length (e.tells && c.about.tells) e.blobs r (marks t.view.gone) block xs did.answered
+
+allowed_length : (s : RunSetting) (m : Mounts) (block before ls : List Line) (xs : List Reply) → AllowedFrom s m block before ls xs → length xs ≡ length ls
+allowed_length s m block before [] [] h = refl
+allowed_length s m block before [] (x ∷ xs) h = absurd h
+allowed_length s m block before (l ∷ ls) [] h = absurd h
+allowed_length s m block before (l ∷ ls) (x ∷ xs) h = ap suc (allowed_length s m block (before ++ l ∷ []) ls xs h.1)
+
+pub block_length : (s : RunSetting) (r q : RosterView) (block : List Line) (xs : List Reply) (before now : List SourceView) (p t : PassView) → BlockRan s r q block xs before now p t → length xs ≡ length block
+block_length s r q block xs before now p t h = allowed_length s (mounts_of r) block [] block xs h.allowed

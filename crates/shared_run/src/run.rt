@@ -68,6 +68,7 @@ fn next_block<
     let replies = run_block(
         rt, alloc, cache, pass, config, block, roster, sources, workers, gate, now,
     )?;
+    roster.lesson();
     forget(roster, block, &replies);
     Ok(replies)
 }
