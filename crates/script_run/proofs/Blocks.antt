@@ -28,10 +28,10 @@ use Rattle.mount_script.specs.declared.reply.Reply.TheVariants as reply
 use Rattle.shard_replies.specs.ExpectedReplies.{Mounts, expected_reply, mount_reply, used_name}
 use Rattle.script_run.specs.Mounting.{mounts_of, after_line, after_block, with_name}
 use Rattle.script_run.specs.Allowed.{RunSetting, Allowed, AllowedFrom, IsPlain, IsStats, IsStatsReply, near_lines, reads_files, reads_source, unmounted_in, is_unmount_of, may_be_gone, faults_of, is_fault, Bears}
-use Rattle.script_run.specs.Lines.{is_shared, Cached, cached, IsAnswer, IsMarked, IsGone, HasKind, FilesKind, LineDoes}
+use Rattle.script_run.specs.Lines.{is_shared, is_mount, Cached, cached, IsAnswer, IsMarked, IsGone, HasKind, FilesKind, LineDoes}
 use Rattle.script_run.specs.declared.sums.Sums.{Sums}
 use Rattle.script_run.specs.MountLines.{MountKind, MountsOne, RosterGoes, MountDoes}
-use Rattle.script_run.specs.Blocks.{alone, seen, IsIdle, UnmountedIn, forgets, forgets_any, Forgotten, NoStats, BlockStats, stats_of, AllShared, IsBlock, Kinds, LinesRan, BlockRan}
+use Rattle.script_run.specs.Blocks.{alone, seen, IsIdle, UnmountedIn, forgets, forgets_any, Forgotten, NoStats, BlockStats, stats_of, AllShared, NoMounts, IsBlock, Kinds, LinesRan, BlockRan}
 use Rattle.script_run.proofs.Rosters.{names_same, names_are, mounted_with}
 
 -- ---- what a block takes out of a roster
@@ -346,8 +346,8 @@ kinds_length r [] (x ∷ xs) h = absurd h
 kinds_length r (l ∷ ls) [] h = absurd h
 kinds_length r (l ∷ ls) (x ∷ xs) h = let k = kinds_length r ls xs h.1 in omega (arith, k)
 
--- what a shared line makes of what is mounted
-line_makes : (blobs : Listing) (c : Command) (x : Reply) (m : Mounts) (other : List ℕ) → is_shared c ≡ true → (after_line blobs c x m).number_of other ≡ cond (forgets c x other) None (m.number_of other)
+-- what a line that is no `mount` makes of what is mounted
+line_makes : (blobs : Listing) (c : Command) (x : Reply) (m : Mounts) (other : List ℕ) → is_mount c ≡ false → (after_line blobs c x m).number_of other ≡ cond (forgets c x other) None (m.number_of other)
 line_makes blobs (Mount name manifest) x m other s = absurd (cc)
 line_makes blobs (Unmount name) reply.Unmounted m other s = refl
 line_makes blobs (Unmount name) x m other s = refl
@@ -358,7 +358,7 @@ line_makes blobs (Search name size text) x m other s = refl
 line_makes blobs (Fetch name segment doc) x m other s = refl
 line_makes blobs (Read name file at len) x m other s = refl
 
-line_made : (blobs : Listing) (c : Command) (x : Reply) (m : Mounts) → is_shared c ≡ true → (after_line blobs c x m).made ≡ m.made
+line_made : (blobs : Listing) (c : Command) (x : Reply) (m : Mounts) → is_mount c ≡ false → (after_line blobs c x m).made ≡ m.made
 line_made blobs (Mount name manifest) x m s = absurd (cc)
 line_made blobs (Unmount name) reply.Unmounted m s = refl
 line_made blobs (Unmount name) x m s = refl
@@ -369,12 +369,26 @@ line_made blobs (Search name size text) x m s = refl
 line_made blobs (Fetch name segment doc) x m s = refl
 line_made blobs (Read name file at len) x m s = refl
 
+no_mount : (c : Command) → is_shared c ≡ true → is_mount c ≡ false
+no_mount (Mount name manifest) s = absurd (cc)
+no_mount (Unmount name) s = refl
+no_mount (Clear name) s = refl
+no_mount Decay s = refl
+no_mount Stats s = refl
+no_mount (Search name size text) s = refl
+no_mount (Fetch name segment doc) s = refl
+no_mount (Read name file at len) s = refl
+
+pub no_mounts_of : (ls : List Line) → AllShared ls → NoMounts ls
+no_mounts_of [] s = tt {0}
+no_mounts_of (l ∷ ls) s = (no_mount l.command s.0, no_mounts_of ls s.1)
+
 cond_twice : {X : Type 0} (a b : Bool) (o : Option X) → cond b None (cond a None o) ≡ cond (a || b) None o
 cond_twice true true o = refl
 cond_twice true false o = refl
 cond_twice false b o = refl
 
-block_makes : (blobs : Listing) (ls : List Line) (xs : List Reply) (m : Mounts) (other : List ℕ) → AllShared ls → length xs ≡ length ls
+pub block_makes : (blobs : Listing) (ls : List Line) (xs : List Reply) (m : Mounts) (other : List ℕ) → NoMounts ls → length xs ≡ length ls
     → (after_block blobs ls xs m).number_of other ≡ cond (forgets_any ls xs other) None (m.number_of other)
 block_makes blobs [] xs m other s e = refl
 block_makes blobs (l ∷ ls) [] m other s e = absurd (omega (arith, e))
@@ -384,17 +398,17 @@ block_makes blobs (l ∷ ls) (x ∷ xs) m other s e =
     ∙ ap (λ (o : Option ℕ). cond (forgets_any ls xs other) None o) (line_makes blobs l.command x m other s.0)
     ∙ cond_twice (forgets l.command x other) (forgets_any ls xs other) (m.number_of other)
 
-block_made : (blobs : Listing) (ls : List Line) (xs : List Reply) (m : Mounts) → AllShared ls → length xs ≡ length ls → (after_block blobs ls xs m).made ≡ m.made
+pub block_made : (blobs : Listing) (ls : List Line) (xs : List Reply) (m : Mounts) → NoMounts ls → length xs ≡ length ls → (after_block blobs ls xs m).made ≡ m.made
 block_made blobs [] xs m s e = refl
 block_made blobs (l ∷ ls) [] m s e = absurd (omega (arith, e))
 block_made blobs (l ∷ ls) (x ∷ xs) m s e =
     let less : length xs ≡ length ls = omega (arith, e) in
     block_made blobs ls xs (after_line blobs l.command x m) s.1 less ∙ line_made blobs l.command x m s.0
 
-same_mounts : (m n : Mounts) → ((other : List ℕ) → m.number_of other ≡ n.number_of other) → m.made ≡ n.made → m ≡ n
+pub same_mounts : (m n : Mounts) → ((other : List ℕ) → m.number_of other ≡ n.number_of other) → m.made ≡ n.made → m ≡ n
 same_mounts m n h e = ap₂ (λ (f : List ℕ → Option ℕ) (k : ℕ). record { number_of = f; made = k }) (fun_ext h) e
 
-number_cond : (b : Bool) (o : Option MountView) → option_map (λ (m : MountView). m.number) (cond b None o) ≡ cond b None (option_map (λ (m : MountView). m.number) o)
+pub number_cond : (b : Bool) (o : Option MountView) → option_map (λ (m : MountView). m.number) (cond b None o) ≡ cond b None (option_map (λ (m : MountView). m.number) o)
 number_cond true o = refl
 number_cond false o = refl
 
@@ -436,8 +450,8 @@ shared_ran s r q block xs a b v w shared h f =
       allowed = h.allowed;
       mounts = λ t. same_mounts (mounts_of q) (after_block s.blobs block xs (mounts_of r))
           (λ other. ap (λ (o : Option MountView). option_map (λ (m : MountView). m.number) o) (f.mounts other) ∙ number_cond (forgets_any block xs other) (mounted other r)
-          ∙ sym (block_makes s.blobs block xs (mounts_of r) other shared many))
-          (f.made ∙ sym (block_made s.blobs block xs (mounts_of r) shared many));
+          ∙ sym (block_makes s.blobs block xs (mounts_of r) other (no_mounts_of block shared) many))
+          (f.made ∙ sym (block_made s.blobs block xs (mounts_of r) (no_mounts_of block shared) many));
       bears = h.bears;
       faults = h.faults;
       identity = h.identity;
@@ -476,7 +490,7 @@ both_told : (a b : Bool) → IsTrue (a && b) → IsTrue a
 both_told true b h = refl
 both_told false b h = absurd (cc)
 
-mount_allowed : (tells frames : Bool) (blobs : Listing) (regions : ℕ) (m : Mounts) (name manifest : List ℕ) (x : Reply) → MountKind x → IsAnswer tells (mount_reply blobs m name manifest) x
+pub mount_allowed : (tells frames : Bool) (blobs : Listing) (regions : ℕ) (m : Mounts) (name manifest : List ℕ) (x : Reply) → MountKind x → IsAnswer tells (mount_reply blobs m name manifest) x
     → Allowed (alone (tells && frames) blobs regions) m [] (Mount name manifest) x
 mount_allowed tells frames blobs regions m name manifest (reply.Mounted files docs) k h = λ t. h (both_told tells frames t)
 mount_allowed tells frames blobs regions m name manifest (reply.Refused text) k h = λ t. h (both_told tells frames t)
@@ -485,7 +499,7 @@ mount_allowed tells frames blobs regions m name manifest reply.NoMemory k h = tt
 mount_allowed tells frames blobs regions m name manifest x k h = absurd k
 
 -- the roster is as before, and so is what is mounted; or one mount was made
-mount_cases : (tells : Bool) (blobs : Listing) (name manifest : List ℕ) (r q : RosterView) (x : Reply) → RosterGoes tells blobs name manifest r q x
+pub mount_cases : (tells : Bool) (blobs : Listing) (name manifest : List ℕ) (r q : RosterView) (x : Reply) → RosterGoes tells blobs name manifest r q x
     → ((q ≡ r) × ((m : Mounts) → after_line blobs (Mount name manifest) x m ≡ m))
     ⊎ (MountsOne tells blobs name manifest r q × ((m : Mounts) → after_line blobs (Mount name manifest) x m ≡ with_name name (manifest_number manifest blobs) m))
 mount_cases tells blobs name manifest r q (reply.Mounted files docs) h = inr (h, λ m. refl)
@@ -516,14 +530,14 @@ one_more tells blobs name manifest r q h t = same_mounts (mounts_of q) (with_nam
         ∙ number_some (bytes_eq name other) (record { mount = r.made; number = h.number; facts = h.facts; parts = h.parts }) (mounted other r)
         ∙ ap (λ (o : Option ℕ). cond (bytes_eq name other) o (option_map (λ (m : MountView). m.number) (mounted other r))) (sym (h.found t))
 
-mount_mounts : (tells : Bool) (blobs : Listing) (name manifest : List ℕ) (r q : RosterView) (x : Reply) → RosterGoes tells blobs name manifest r q x → IsTrue tells
+pub mount_mounts : (tells : Bool) (blobs : Listing) (name manifest : List ℕ) (r q : RosterView) (x : Reply) → RosterGoes tells blobs name manifest r q x → IsTrue tells
     → mounts_of q ≡ after_line blobs (Mount name manifest) x (mounts_of r)
 mount_mounts tells blobs name manifest r q x h t = elim (mount_cases tells blobs name manifest r q x h) [
   | inl k ↦ ap mounts_of k.0 ∙ sym (k.1 (mounts_of r))
   | inr k ↦ one_more tells blobs name manifest r q k.0 t ∙ sym (k.1 (mounts_of r))
 ]
 
-does_live : (x y : DoorView) (given : Reply) → MountDoes x y given → (y.hold ≡ x.hold) × (y.unmounted ≡ x.unmounted)
+pub does_live : (x y : DoorView) (given : Reply) → MountDoes x y given → (y.hold ≡ x.hold) × (y.unmounted ≡ x.unmounted)
 does_live x y (reply.Mounted files docs) h = (h.hold, h.unmounted)
 does_live x y reply.Unmounted h = (ap (λ (d : DoorView). d.hold) h, ap (λ (d : DoorView). d.unmounted) h)
 does_live x y reply.Cleared h = (ap (λ (d : DoorView). d.hold) h, ap (λ (d : DoorView). d.unmounted) h)

@@ -56,38 +56,38 @@ allowed_with s m n near c reply.Gone e h = h
 allowed_with s m n near c reply.NoMemory e h = h
 allowed_with s m n near c x e h = plain_with s m n c x e h
 
-from_with : (s : RunSetting) (m n : Mounts) (block before ls : List Line) (xs : List Reply) → (IsTrue s.tells → m ≡ n) → AllowedFrom s m block before ls xs → AllowedFrom s n block before ls xs
+pub from_with : (s : RunSetting) (m n : Mounts) (block before ls : List Line) (xs : List Reply) → (IsTrue s.tells → m ≡ n) → AllowedFrom s m block before ls xs → AllowedFrom s n block before ls xs
 from_with s m n block before [] [] e h = tt {0}
 from_with s m n block before [] (x ∷ xs) e h = absurd h
 from_with s m n block before (l ∷ ls) [] e h = absurd h
 from_with s m n block before (l ∷ ls) (x ∷ xs) e h = (allowed_with s m n (near_lines s block before) l.command x e h.0, from_with s m n block (before ++ l ∷ []) ls xs e h.1)
 
-some_replies : (s : RunSetting) (m : Mounts) (block : List Line) (xs : List Reply) → IsBlock block → AllowedBlock s m block xs → xs ≡ [] → ⊥
+pub some_replies : (s : RunSetting) (m : Mounts) (block : List Line) (xs : List Reply) → IsBlock block → AllowedBlock s m block xs → xs ≡ [] → ⊥
 some_replies s m [] xs some h e = some
 some_replies s m (l ∷ ls) [] some h e = h
 some_replies s m (l ∷ ls) (x ∷ xs) some h e = absurd (cc)
 
 -- ---- one block more
 
-after_more : (blobs : Listing) (bs : List (List Line)) (xss : List (List Reply)) (b : List Line) (xs : List Reply) (m : Mounts) → length xss ≡ length bs
+pub after_more : (blobs : Listing) (bs : List (List Line)) (xss : List (List Reply)) (b : List Line) (xs : List Reply) (m : Mounts) → length xss ≡ length bs
     → after_blocks blobs (bs ++ b ∷ []) (xss ++ xs ∷ []) m ≡ after_block blobs b xs (after_blocks blobs bs xss m)
 after_more blobs [] [] b xs m e = refl
 after_more blobs [] (ys ∷ xss) b xs m e = absurd (omega (arith, e))
 after_more blobs (c ∷ bs) [] b xs m e = absurd (omega (arith, e))
 after_more blobs (c ∷ bs) (ys ∷ xss) b xs m e = let less : length xss ≡ length bs = omega (arith, e) in after_more blobs bs xss b xs (after_block blobs c ys m) less
 
-allowed_run : (s : RunSetting) (m : Mounts) (bs : List (List Line)) (xss : List (List Reply)) (b : List Line) (xs : List Reply)
+pub allowed_run : (s : RunSetting) (m : Mounts) (bs : List (List Line)) (xss : List (List Reply)) (b : List Line) (xs : List Reply)
     → AllowedRun s m bs xss → AllowedBlock s (after_blocks s.blobs bs xss m) b xs → AllowedRun s m (bs ++ b ∷ []) (xss ++ xs ∷ [])
 allowed_run s m [] [] b xs h k = (k, tt {0})
 allowed_run s m [] (ys ∷ xss) b xs h k = absurd h
 allowed_run s m (c ∷ bs) [] b xs h k = absurd h
 allowed_run s m (c ∷ bs) (ys ∷ xss) b xs h k = (h.0, allowed_run s (after_block s.blobs c ys m) bs xss b xs h.1 k)
 
-faults_more : (xss : List (List Reply)) (xs : List Reply) → run_faults 1 0 (xss ++ xs ∷ []) ≡ run_faults 1 0 xss + faults_of 1 0 0 xs
-faults_more [] xs = omega arith
-faults_more (ys ∷ xss) xs = let k = faults_more xss xs in omega (arith, k)
+pub faults_more : (w i : ℕ) (xss : List (List Reply)) (xs : List Reply) → run_faults w i (xss ++ xs ∷ []) ≡ run_faults w i xss + faults_of w i 0 xs
+faults_more w i [] xs = omega arith
+faults_more w i (ys ∷ xss) xs = let k = faults_more w i xss xs in omega (arith, k)
 
-bears_add : (n k a b c : ℕ) → Bears n a b → Bears k b c → Bears (n + k) a c
+pub bears_add : (n k a b c : ℕ) → Bears n a b → Bears k b c → Bears (n + k) a c
 bears_add n k a b c h g = omega (arith, h, g)
 
 pub text_more : (bs : List (List Line)) (xss : List (List Reply)) (b : List Line) (xs : List Reply) → length xss ≡ length bs → run_text (bs ++ b ∷ []) (xss ++ xs ∷ []) ≡ run_text bs xss ++ block_text b xs
@@ -98,11 +98,11 @@ text_more (c ∷ bs) (ys ∷ xss) b xs e =
     let less : length xss ≡ length bs = omega (arith, e) in
     ap (λ (t : List ℕ). block_text c ys ++ t) (text_more bs xss b xs less) ∙ sym (append_assoc (block_text c ys) (run_text bs xss) (block_text b xs))
 
-replies_more : (xss : List (List Reply)) (xs : List Reply) → all_replies (xss ++ xs ∷ []) ≡ all_replies xss ++ xs
+pub replies_more : (xss : List (List Reply)) (xs : List Reply) → all_replies (xss ++ xs ∷ []) ≡ all_replies xss ++ xs
 replies_more [] xs = append-nil xs
 replies_more (ys ∷ xss) xs = ap (λ (t : List Reply). ys ++ t) (replies_more xss xs) ∙ sym (append_assoc ys (all_replies xss) xs)
 
-some_more : (f : Reply → Bool) (xss : List (List Reply)) (xs : List Reply) → some_reply f (xss ++ xs ∷ []) ≡ (some_reply f xss || list_any f xs)
+pub some_more : (f : Reply → Bool) (xss : List (List Reply)) (xs : List Reply) → some_reply f (xss ++ xs ∷ []) ≡ (some_reply f xss || list_any f xs)
 some_more f xss xs = list_any-append (λ (block : List Reply). list_any f block) xss (xs ∷ []) ∙ ap (λ (b : Bool). some_reply f xss || b) (only (list_any f xs))
   where
     only : (b : Bool) → (b || false) ≡ b
@@ -113,15 +113,15 @@ asked_more : (n : ℕ) (times : List ℕ) → times_asked n (times_after times) 
 asked_more zero times = refl
 asked_more (suc n) times = asked_more n (times_after times)
 
-count_more : (bs : List (List Line)) (b : List Line) → length (bs ++ b ∷ []) ≡ suc (length bs)
+pub count_more : (bs : List (List Line)) (b : List Line) → length (bs ++ b ∷ []) ≡ suc (length bs)
 count_more [] b = refl
 count_more (c ∷ bs) b = ap suc (count_more bs b)
 
-many_more : (xss : List (List Reply)) (xs : List Reply) → length (xss ++ xs ∷ []) ≡ suc (length xss)
+pub many_more : (xss : List (List Reply)) (xs : List Reply) → length (xss ++ xs ∷ []) ≡ suc (length xss)
 many_more [] xs = refl
 many_more (ys ∷ xss) xs = ap suc (many_more xss xs)
 
-clock_more : (n : ℕ) (t u d : Option (List ℕ)) → u ≡ option_map (times_asked n) t → d ≡ option_map times_after u → d ≡ option_map (times_asked (suc n)) t
+pub clock_more : (n : ℕ) (t u d : Option (List ℕ)) → u ≡ option_map (times_asked n) t → d ≡ option_map times_after u → d ≡ option_map (times_asked (suc n)) t
 clock_more n t u d e f = f ∙ ap (option_map times_after) e ∙ by_cases t
   where
     by_cases : (o : Option (List ℕ)) → option_map times_after (option_map (times_asked n) o) ≡ option_map (times_asked (suc n)) o
@@ -144,7 +144,7 @@ run_more tells frames blobs regions done replies r q sums sums' a b c t u d v w 
       many = many_more replies xs ∙ ap suc h.many ∙ sym (count_more done block);
       allowed = allowed_run s nothing_mounted done replies block xs h.allowed (from_with s (mounts_of r) m block [] block xs h.mounts own.allowed);
       mounts = λ k. own.mounts k ∙ ap (after_block blobs block xs) (h.mounts k) ∙ sym (after_more blobs done replies block xs nothing_mounted h.many);
-      bears = subst (λ (n : ℕ). Bears n a.faults c.faults) (sym (faults_more replies xs)) (bears_add (run_faults 1 0 replies) (faults_of 1 0 0 xs) a.faults b.faults c.faults h.bears own.bears);
+      bears = subst (λ (n : ℕ). Bears n a.faults c.faults) (sym (faults_more 1 0 replies xs)) (bears_add (run_faults 1 0 replies) (faults_of 1 0 0 xs) a.faults b.faults c.faults h.bears own.bears);
       faults = le_trans h.faults own.faults;
       identity = own.identity ∙ h.identity;
       clock = clock_more (length done) t u d h.clock asked ∙ ap (λ (n : ℕ). option_map (times_asked n) t) (sym (count_more done block));
@@ -192,7 +192,7 @@ started s r sums a t v x e f new = record {
     idle : IsIdle v
     idle = ap (λ (hs : List (Option Hold)). hold_view (slice_index_or hs 0 None)) new.idle
 
-allowed_length : (s : RunSetting) (m : Mounts) (block before ls : List Line) (xs : List Reply) → AllowedFrom s m block before ls xs → length xs ≡ length ls
+pub allowed_length : (s : RunSetting) (m : Mounts) (block before ls : List Line) (xs : List Reply) → AllowedFrom s m block before ls xs → length xs ≡ length ls
 allowed_length s m block before [] [] h = refl
 allowed_length s m block before [] (x ∷ xs) h = absurd h
 allowed_length s m block before (l ∷ ls) [] h = absurd h
@@ -222,7 +222,7 @@ ended s script blocks rest replies r sums a b x y t u v w end all h ends = recor
   stats = record { rise = fit_rises w.policy sums (all_replies replies) h.stats; below = h.stats.below; last = λ d. h.stats.last };
 }
 
-rose_on : (a b c : ℕ) → a ≤ b → Rose b c → Rose a c
+pub rose_on : (a b c : ℕ) → a ≤ b → Rose b c → Rose a c
 rose_on a b c h k = omega (arith, h, k)
 
 -- one block more was written
@@ -274,7 +274,7 @@ pub stopped : (s : RunSetting) (script : List (List Line)) (i : ℕ) (r : Roster
 stopped s script i r sums marked lacking a b t u v w x y h =
     ended s script (take i script) (drop i script) h.replies r sums a b x y t u v w NoMemory (sym (take-append-drop i script)) h.ran (front_all x.written y.written (run_text (take i script) h.replies) h.written)
 
-whole : (script : List (List Line)) (i : ℕ) → i ≡ length script → take i script ≡ script
+pub whole : (script : List (List Line)) (i : ℕ) → i ≡ length script → take i script ≡ script
 whole script i e = ap (λ (n : ℕ). take n script) e ∙ take-length script
 
 pub finished : (s : RunSetting) (script : List (List Line)) (i : ℕ) (r : RosterView) (sums : Sums) (marked lacking : Bool) (a b : SourceView) (t u : ClockView) (v w : CoreView) (x y : SinkView)

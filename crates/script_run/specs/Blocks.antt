@@ -22,7 +22,7 @@ use Rattle.script_run.specs.Allowed.{RunSetting, AllowedBlock, AllowedFrom, Allo
 use Rattle.script_run.specs.Texts.{run_text}
 use Rattle.script_run.specs.Clocks.{times_asked}
 use Rattle.script_run.specs.Counters.{Counters, no_counts, numbers_of, StatsRise, StatsBelow, LastStats, all_replies}
-use Rattle.script_run.specs.Lines.{HasKind, is_shared}
+use Rattle.script_run.specs.Lines.{HasKind, is_shared, is_mount}
 use Rattle.script_run.specs.declared.sums.Sums.{Sums}
 
 -- a script that was read from some text: its `mount` and `stats` lines stand alone in their blocks
@@ -102,6 +102,11 @@ BlockStats v w before now replies = NoStats replies ⊎ ((replies ≡ stats_of v
 abbrev pub AllShared : List Line → Type 0
 AllShared [] = Unit {0}
 AllShared (l ∷ ls) = (is_shared l.command ≡ true) × AllShared ls
+
+-- none of them is a `mount`
+abbrev pub NoMounts : List Line → Type 0
+NoMounts [] = Unit {0}
+NoMounts (l ∷ ls) = (is_mount l.command ≡ false) × NoMounts ls
 
 -- a `mount` or a `stats` line stands alone in its block
 abbrev pub IsBlock : List Line → Type 0

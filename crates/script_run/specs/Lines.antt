@@ -31,6 +31,10 @@ is_shared (Mount name manifest) = false
 is_shared Stats = false
 is_shared _ = true
 
+abbrev pub is_mount : Command → Bool
+is_mount (Mount name manifest) = true
+is_mount _ = false
+
 -- a line that names a mount which is to be there, and the mount's name
 abbrev pub named : Command → Option (List ℕ)
 named (Unmount name) = Some name

@@ -32,7 +32,7 @@ fn is_memory(reply: &Reply) -> bool
 }
 
 /// Whether some reply is `fault` or `gone`.
-fn has_mark(replies: &[Reply]) -> bool
+pub fn has_mark(replies: &[Reply]) -> bool
     ensures { result ≡ list_any is_mark replies.now }
 {
     let mut found = false;
@@ -43,7 +43,7 @@ fn has_mark(replies: &[Reply]) -> bool
 }
 
 /// Whether some reply is `no memory`.
-fn wants_memory(replies: &[Reply]) -> bool
+pub fn wants_memory(replies: &[Reply]) -> bool
     ensures { result ≡ list_any is_memory replies.now }
 {
     let mut found = false;

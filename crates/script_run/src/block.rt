@@ -81,7 +81,7 @@ fn forget_line<A: Archive>(roster: &mut Roster<A>, command: &Command, reply: &Re
 }
 
 /// Takes the mounts that a block unmounted out of the roster.
-fn forget<A: Archive>(roster: &mut Roster<A>, block: &[Line], replies: &[Reply])
+pub fn forget<A: Archive>(roster: &mut Roster<A>, block: &[Line], replies: &[Reply])
     requires { length replies.now ≡ length block.now }
     ensures { Forgotten block.now replies.now roster.old roster.new }
 {

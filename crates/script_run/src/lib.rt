@@ -13,12 +13,13 @@ mod stats;
 mod sums;
 mod written;
 
-pub use alone::run_alone;
+pub use alone::{has_mark, run_alone, wants_memory};
 pub use answer::Answer;
+pub use block::forget;
 pub use cache_reader::Report;
 pub use ended::Ended;
 pub use line::run_line;
 pub use mount_script::{Command, Reply};
 pub use mounting::mount_line;
 pub use sums::Sums;
-pub use written::write_all;
+pub use written::{write_all, write_block};

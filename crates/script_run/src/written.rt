@@ -59,7 +59,7 @@ fn write_line<K: Sink>(
 }
 
 /// Writes the lines of a block's replies, in order, one after another.
-pub(crate) fn write_block<K: Sink>(
+pub fn write_block<K: Sink>(
     alloc: Global,
     sink: &mut K,
     block: &[Line],

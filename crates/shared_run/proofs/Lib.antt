@@ -4,3 +4,10 @@ mod Parts
 mod Deals
 mod Joins
 mod Allows
+mod Sums
+mod Queues
+mod Together
+mod Jobs
+mod Runs
+mod Between
+mod Wholes

@@ -29,7 +29,7 @@ use Rattle.shard_replies.specs.ExpectedReplies.{expected_reply, used_name, refus
 use Rattle.script_run.specs.Mounting.{mounts_of}
 use Rattle.script_run.specs.Allowed.{reads_files, is_fault, is_memory, Bears}
 use Rattle.script_run.specs.Lines.{is_shared, Cached, cached, reading, IsAnswer, IsMarked, IsOrNoMemory, HasKind, FilesKind, FilesRead, LineDoes}
-use Rattle.shared_run.specs.Workers.{MarkSeen, LineAnswered, AllAnswered, is_decayed, is_cleared, has_number, unmounts, unmounted_by, LinesTook, LinesDid}
+use Rattle.shared_run.specs.Workers.{ReplyKind, MarkSeen, LineAnswered, AllAnswered, is_decayed, is_cleared, has_number, unmounts, unmounted_by, LinesTook, LineWorks, LinesDid}
 
 -- ---- replies
 
@@ -160,15 +160,6 @@ took_nothing range lacks y z e s t = record {
 
 -- ---- one line
 
--- what one line with this reply makes of a source and a door
-record LineWorks (range : ℕ) (tells : Bool) (r : RosterView) (c : Command) (x : Reply) (y z : Moment) : Type 0 where
-  decays : Grew y.door.work.decays z.door.work.decays (cond (is_decayed x) 1 0)
-  clears : Grew y.door.work.clears z.door.work.clears (cond (is_cleared x) 1 0)
-  stored : y.door.work.stored ≤ z.door.work.stored
-  turned : y.door.work.turned_away ≤ z.door.work.turned_away
-  unmounted : (n : ℕ) → z.door.unmounted n ≡ (unmounts r c x n || y.door.unmounted n)
-  took : IsTrue tells → LinesTook range (is_memory x) y z
-
 -- a reply that says of no decay, clear or unmount
 record IsQuiet (x : Reply) : Type 0 where
   decays : is_decayed x ≡ false
@@ -224,9 +215,9 @@ files_quiet (Read name file at len) x f h = by_reply x h
     by_reply reply.NoMemory h = record { decays = refl; clears = refl; mounts = λ r c n. refl }
     by_reply x h = bytes_quiet x h
 
-refused_quiet : (x : Reply) → IsOrNoMemory (refused (codes "not mounted")) x → IsQuiet x
-refused_quiet x (inl e) = subst IsQuiet (sym e) (record { decays = refl; clears = refl; mounts = λ r c n. refl })
-refused_quiet x (inr e) = subst IsQuiet (sym e) (record { decays = refl; clears = refl; mounts = λ r c n. refl })
+refused_quiet : (text : List ℕ) (x : Reply) → IsOrNoMemory (refused text) x → IsQuiet x
+refused_quiet text x (inl e) = subst IsQuiet (sym e) (record { decays = refl; clears = refl; mounts = λ r c n. refl })
+refused_quiet text x (inr e) = subst IsQuiet (sym e) (record { decays = refl; clears = refl; mounts = λ r c n. refl })
 
 module _ (range : ℕ) (tells : Bool) (r : RosterView) (c : Command) (y z : Moment) where
   quiet_mounts : (x : Reply) → IsQuiet x → ((n : ℕ) → z.door.unmounted n ≡ y.door.unmounted n) → (n : ℕ) → z.door.unmounted n ≡ (unmounts r c x n || y.door.unmounted n)
@@ -283,17 +274,17 @@ module _ (tells : Bool) (blobs : Listing) (config : Config) (r : RosterView) (no
   by_reply : (c : Command) (x w : Reply) → x ≡ w → LineWorks config.range tells r c w y z → LineWorks config.range tells r c x y z
   by_reply c x w e = subst (λ (u : Reply). LineWorks config.range tells r c u y z) (sym e)
 
-  line_works : (c : Command) (o : Option MountView) (x : Reply) → is_shared c ≡ true → mounted (used_name c) r ≡ o → HasKind c o x → LineDoes (cached tells blobs config) now c o x report y z
+  pub line_works : (c : Command) (o : Option MountView) (x : Reply) → is_shared c ≡ true → mounted (used_name c) r ≡ o → HasKind c o x → LineDoes (cached tells blobs config) now c o x report y z
       → LineWorks config.range tells r c x y z
   line_works (Mount name manifest) o x shared is kind h = absurd (cc)
   line_works Stats o x shared is kind h = absurd (cc)
   line_works Decay o x shared is kind h = by_reply Decay x reply.Decayed kind
       (asks config.range tells r Decay y z (record no_work { decays = 1 }) y.door.unmounted reply.Decayed h.source h.works h.mounts refl refl refl refl (λ n. refl))
-  line_works (Unmount name) None x shared is kind h = rests config.range tells r (Unmount name) y z x (refused_quiet x kind) h.1
-  line_works (Clear name) None x shared is kind h = rests config.range tells r (Clear name) y z x (refused_quiet x kind) h.1
-  line_works (Search name size text) None x shared is kind h = rests config.range tells r (Search name size text) y z x (refused_quiet x kind) h.1
-  line_works (Fetch name segment doc) None x shared is kind h = rests config.range tells r (Fetch name segment doc) y z x (refused_quiet x kind) h.1
-  line_works (Read name file at len) None x shared is kind h = rests config.range tells r (Read name file at len) y z x (refused_quiet x kind) h.1
+  line_works (Unmount name) None x shared is kind h = rests config.range tells r (Unmount name) y z x (refused_quiet (codes "not mounted") x kind) h.1
+  line_works (Clear name) None x shared is kind h = rests config.range tells r (Clear name) y z x (refused_quiet (codes "not mounted") x kind) h.1
+  line_works (Search name size text) None x shared is kind h = rests config.range tells r (Search name size text) y z x (refused_quiet (codes "not mounted") x kind) h.1
+  line_works (Fetch name segment doc) None x shared is kind h = rests config.range tells r (Fetch name segment doc) y z x (refused_quiet (codes "not mounted") x kind) h.1
+  line_works (Read name file at len) None x shared is kind h = rests config.range tells r (Read name file at len) y z x (refused_quiet (codes "not mounted") x kind) h.1
   line_works (Clear name) (Some m) x shared is kind h = by_reply (Clear name) x reply.Cleared kind
       (asks config.range tells r (Clear name) y z (record no_work { clears = 1 }) y.door.unmounted reply.Cleared h.source h.works h.mounts refl refl refl refl (λ n. refl))
   line_works (Unmount name) (Some m) x shared is kind h = by_reply (Unmount name) x reply.Unmounted kind
@@ -303,17 +294,20 @@ module _ (tells : Bool) (blobs : Listing) (config : Config) (r : RosterView) (no
   line_works (Fetch name segment doc) (Some m) x shared is kind h = reads config.range tells r (Fetch name segment doc) y z (cached tells blobs config) m now x report refl refl (files_quiet (Fetch name segment doc) x refl kind) h
   line_works (Read name file at len) (Some m) x shared is kind h = reads config.range tells r (Read name file at len) y z (cached tells blobs config) m now x report refl refl (files_quiet (Read name file at len) x refl kind) h
 
+  -- a line that is refused, and asks for nothing
+  pub refused_works : (c : Command) (text : List ℕ) (x : Reply) → IsOrNoMemory (refused text) x → z ≡ y → LineWorks config.range tells r c x y z
+  refused_works c text x kind e = rests config.range tells r c y z x (refused_quiet text x kind) e
+
   -- the same lines and one more
-  pub line_did : (ls : List Line) (xs : List Reply) (l : Line) (x : Reply) (p : Moment) → is_shared l.command ≡ true → LinesDid (cached tells blobs config) r ls xs p y
+  pub line_did : (ls : List Line) (xs : List Reply) (l : Line) (x : Reply) (p : Moment) → LinesDid (cached tells blobs config) r ls xs p y
       → y.door.frames_tell ≡ p.door.frames_tell → Grown y.door.seen_gone z.door.seen_gone
       → IsAnswer (tells && y.door.frames_tell) (expected_reply blobs (mounts_of r) l.command) x
       → IsMarked l.command (mounted (used_name l.command) r) y z x
-      → HasKind l.command (mounted (used_name l.command) r) x
+      → ReplyKind l.command (mounted (used_name l.command) r) x
       → SourceLater y.source z.source (x ≡ reply.Fault)
-      → LineDoes (cached tells blobs config) now l.command (mounted (used_name l.command) r) x report y z
+      → LineWorks config.range tells r l.command x y z
       → LinesDid (cached tells blobs config) r (ls ++ l ∷ []) (xs ++ x ∷ []) p z
-  line_did ls xs l x p shared h tell grown told mark kind source does =
-      let w = line_works l.command (mounted (used_name l.command) r) x shared refl kind does in
+  line_did ls xs l x p h tell grown told mark kind source w =
       let own : IsAnswer (tells && p.door.frames_tell) (expected_reply blobs (mounts_of r) l.command) x =
       subst (λ (b : Bool). IsAnswer (tells && b) (expected_reply blobs (mounts_of r) l.command) x) tell told in
       let f = z.door.seen_gone in

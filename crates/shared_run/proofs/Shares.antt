@@ -4,9 +4,9 @@ use Rattle.std.specs.Prelude.{◌==◌, ◌%◌}
 use Rattle.std.proofs.lemmas.List.{length-append, length-take-le, take_more, take-append-drop, append-nil}
 use Rattle.std.proofs.lemmas.Bool.Decides.{eqb_tells}
 use Rattle.mount_script.specs.declared.command.Line.{Line}
-use Rattle.script_run.specs.Lines.{is_shared}
-use Rattle.script_run.specs.Blocks.{AllShared}
 use Rattle.shared_run.specs.Shares.{share}
+use Rattle.script_run.specs.Blocks.{NoMounts}
+use Rattle.script_run.specs.Lines.{is_mount}
 
 pub other_is : (a b : ℕ) → a ≢ b → (a == b) ≡ false
 other_is a b h = elim (eqb_tells a b) [
@@ -72,8 +72,8 @@ module _ {X : Type 0} (w i : ℕ) where
       let m : length (share w i 0 (take (k + 1) xs)) ≡ length (share w i 0 (take k xs)) + 1 = ap length front ∙ length-append (share w i 0 (take k xs)) (x ∷ []) in
       omega (arith, n, m)
 
--- a line that can be shared, at its place
-pub shared_at : (ls : List Line) (i : ℕ) (l : Line) → AllShared ls → i < length ls → l ≡ get_or ls i l → is_shared l.command ≡ true
-shared_at [] i l h k e = absurd (omega (arith, k))
-shared_at (m ∷ ls) zero l h k e = ap (λ (n : Line). is_shared n.command) e ∙ h.0
-shared_at (m ∷ ls) (suc i) l h k e = let fewer : i < length ls = omega (arith, k) in shared_at ls i l h.1 fewer e
+-- a line that is no `mount`, at its place
+pub no_mount_at : (ls : List Line) (i : ℕ) (l : Line) → NoMounts ls → i < length ls → l ≡ get_or ls i l → is_mount l.command ≡ false
+no_mount_at [] i l h k e = absurd (omega (arith, k))
+no_mount_at (m ∷ ls) zero l h k e = ap (λ (n : Line). is_mount n.command) e ∙ h.0
+no_mount_at (m ∷ ls) (suc i) l h k e = let fewer : i < length ls = omega (arith, k) in no_mount_at ls i l h.1 fewer e

@@ -1,5 +1,5 @@
 -- What lines do that one worker runs one after another, through one door and on one source.
-use Rattle.std.specs.Prelude.{ℕ, ◌≡◌, ◌≤◌, ◌==◌, ◌||◌, ◌&&◌, List, [], ◌∷◌, length, count_by, Bool, true, false, IsTrue, Option, Some, None}
+use Rattle.std.specs.Prelude.{ℕ, ◌≡◌, ◌≤◌, ◌==◌, ◌||◌, ◌&&◌, List, [], ◌∷◌, length, count_by, codes, Bool, true, false, IsTrue, Option, Some, None, if◌then◌else◌}
 use Rattle.std.specs.List.{list_any}
 use Rattle.byte_text.specs.Counts.{Rose}
 use Rattle.blob_parts.specs.Takes.{Took}
@@ -13,15 +13,21 @@ use Rattle.cache_table.specs.Views.{CacheView, PassView, IsOf}
 use Rattle.cache_table.specs.Doors.{view_at}
 use Rattle.index_mounts.specs.Rosters.{MountView, RosterView, mounted}
 use Rattle.mount_script.specs.declared.command.Command.{Command}
+use Rattle.mount_script.specs.declared.command.Command.TheVariants.{Stats}
 use Rattle.mount_script.specs.declared.command.Line.{Line}
 use Rattle.mount_script.specs.declared.reply.Reply.{Reply}
 use Rattle.mount_script.specs.declared.reply.Reply.TheVariants as reply
-use Rattle.shard_replies.specs.ExpectedReplies.{expected_reply, used_name}
+use Rattle.shard_replies.specs.ExpectedReplies.{expected_reply, used_name, refused}
 use Rattle.script_run.specs.Mounting.{mounts_of}
 use Rattle.script_run.specs.Allowed.{reads_files, is_fault, is_memory, Bears}
-use Rattle.script_run.specs.Lines.{Cached, IsAnswer, HasKind}
+use Rattle.script_run.specs.Lines.{Cached, IsAnswer, IsOrNoMemory, HasKind}
 
 -- ---- replies
+
+-- what is known of a reply whatever the archive tells; several workers refuse a `stats` line
+abbrev pub ReplyKind : Command → Option MountView → Reply → Type 0
+ReplyKind Stats m given = IsOrNoMemory (refused (codes "refused stats")) given
+ReplyKind c m given = HasKind c m given
 
 -- the mount is there, and was seen gone
 pub record SeenGone (m : Option MountView) (seen : ℕ → Bool) : Type 0 where
@@ -39,7 +45,7 @@ MarkSeen c m seen _ = Unit {0}
 pub record LineAnswered (tells : Bool) (blobs : Listing) (r : RosterView) (seen : ℕ → Bool) (c : Command) (given : Reply) : Type 0 where
   pub told : IsAnswer tells (expected_reply blobs (mounts_of r) c) given
   pub mark : MarkSeen c (mounted (used_name c) r) seen given
-  pub kind : HasKind c (mounted (used_name c) r) given
+  pub kind : ReplyKind c (mounted (used_name c) r) given
 
 -- a reply to each line
 abbrev pub AllAnswered : Bool → Listing → RosterView → (ℕ → Bool) → List Line → List Reply → Type 0
@@ -79,6 +85,15 @@ pub record LinesTook (range : ℕ) (lacks : Bool) (x y : Moment) : Type 0 where
   pub places : List (ℕ × ℕ)
   pub took : Took x.source.reads y.source.reads places
   pub bound : lacks ≡ false → (Rose x.source.faults y.source.faults → ⊥) → Bounded range x.door.work y.door.work (length places)
+
+-- What one line with this reply makes of a source and a door.
+pub record LineWorks (range : ℕ) (tells : Bool) (r : RosterView) (c : Command) (given : Reply) (x y : Moment) : Type 0 where
+  pub decays : Grew x.door.work.decays y.door.work.decays (if is_decayed given then 1 else 0)
+  pub clears : Grew x.door.work.clears y.door.work.clears (if is_cleared given then 1 else 0)
+  pub stored : x.door.work.stored ≤ y.door.work.stored
+  pub turned : x.door.work.turned_away ≤ y.door.work.turned_away
+  pub unmounted : (n : ℕ) → y.door.unmounted n ≡ (unmounts r c given n || x.door.unmounted n)
+  pub took : IsTrue tells → LinesTook range (is_memory given) x y
 
 -- What lines with these replies make of a source and a door.
 pub record LinesDid (e : Cached) (r : RosterView) (lines : List Line) (replies : List Reply) (x y : Moment) : Type 0 where

@@ -14,11 +14,7 @@ use std::alloc::{AllocError, Global};
 use std::vec::IntoIter;
 
 /// Room for a reply to each line of each worker.
-pub(crate) fn rooms(
-    alloc: Global,
-    block: &[Line],
-    workers: usize,
-) -> Result<Vec<Vec<Reply>>, AllocError>
+fn rooms(alloc: Global, block: &[Line], workers: usize) -> Result<Vec<Vec<Reply>>, AllocError>
     requires { 0 < workers }
     ensures { IfOk result (λ v. (vec_len v ≡ workers) × AreRooms workers 0 block.now v.items) }
 {
@@ -28,6 +24,33 @@ pub(crate) fn rooms(
         rooms.push(room)?;
     }
     Ok(rooms)
+}
+
+/// What is taken of memory for the workers of a block before any line runs.
+#[derive(Drop)]
+pub(crate) struct Room<A: Archive, S> {
+    pub(crate) rooms: Vec<Vec<Reply>>,
+    pub(crate) jobs: Vec<Job<A, S>>,
+    pub(crate) queues: Vec<IntoIter<Reply>>,
+}
+
+/// Room for the jobs and replies of the workers.
+pub(crate) fn make_room<A: Archive + Drop, S: Drop>(
+    alloc: Global,
+    block: &[Line],
+    workers: usize,
+) -> Result<Room<A, S>, AllocError>
+    requires { 0 < workers }
+    ensures rooms { IfOk result (λ m. (vec_len m.rooms ≡ workers) × AreRooms workers 0 block.now m.rooms.items) }
+    ensures jobs { IfOk result (λ m. (m.jobs.items ≡ []) × (vec_len m.jobs ≡ 0) × (workers ≤ vec_capacity m.jobs)) }
+    ensures queues { IfOk result (λ m. (m.queues.items ≡ []) × (vec_len m.queues ≡ 0)
+        × (workers ≤ vec_capacity m.queues)) }
+{
+    Ok(Room {
+        rooms: rooms(alloc, block, workers)?,
+        jobs: Vec::with_capacity(alloc, workers)?,
+        queues: Vec::with_capacity(alloc, workers)?,
+    })
 }
 
 /// A job with a share of the cache.

@@ -2,7 +2,7 @@
 ghost use Rattle.std.specs.Prelude.{◌≡◌, ◌<◌, ◌≤◌, [], length, vec_len, vec_capacity};
 ghost use Rattle.region_ranges.specs.Keys.{IsConfig};
 ghost use Rattle.script_run.specs.Lines.{cached};
-ghost use Rattle.script_run.specs.Blocks.{AllShared};
+ghost use Rattle.script_run.specs.Blocks.{NoMounts};
 ghost use Rattle.shared_run.specs.Shares.{share};
 ghost use Rattle.shared_run.specs.Workers.{IsReady, JobRan};
 
@@ -42,12 +42,13 @@ pub(crate) fn work<R: Wait, A: Archive + Drop, F: Frame + Drop, S: BlobSource<A>
 )
     requires ready { IsReady cache.now job.old.pass }
     requires setting { (cache.now.about.config ≡ config.now) × IsConfig config.now }
-    requires shared { AllShared block.now }
+    requires lines { NoMounts block.now }
     requires workers { (worker < workers) × (workers ≤ 8) }
     requires none { (job.old.replies.items ≡ []) × (vec_len job.old.replies ≡ 0) }
     requires room { length (share workers worker 0 block.now) ≤ vec_capacity job.old.replies }
     ensures ran { JobRan (cached A.tells A.blobs config.now) cache.now roster.now (share workers worker 0 block.now)
         job.new.replies.items (S.view job.old.source) (S.view job.new.source) job.old.pass job.new.pass }
+    ensures len { vec_len job.new.replies ≡ length (share workers worker 0 block.now) }
     ensures ready { IsReady cache.now job.new.pass }
 {
     let Some(pass) = job.pass.take() else {

@@ -7,5 +7,9 @@ mod gate;
 mod gather;
 mod job;
 mod lines;
+mod mounting;
+mod run;
 
+pub use block::run_block;
 pub use gate::{Gate, OpenGate};
+pub use run::run_shared;

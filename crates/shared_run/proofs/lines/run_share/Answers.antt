@@ -2,10 +2,11 @@ use Rattle.std.proofs.Common.{arith, ◌∙◌, ◌+◌, ◌++◌, ◌∷◌, []
 use Rattle.std.proofs.lemmas.List.{length-append}
 use Rattle.mount_script.specs.declared.reply.Reply.{Reply}
 use Rattle.cache_reader.specs.Going.{moment}
+use Rattle.cache_reader.specs.Reports.{no_bytes}
 use Rattle.script_run.specs.Lines.{cached}
 use Rattle.shared_run.specs.Shares.{share}
 use Rattle.shared_run.specs.Workers.{LinesDid}
-use Rattle.shared_run.proofs.Shares.{shared_at, share_more, share_same, share_room, same_is, other_is}
+use Rattle.shared_run.proofs.Shares.{no_mount_at, share_more, share_same, share_room, same_is, other_is}
 use Rattle.shared_run.proofs.LinesDone.{no_lines, line_did, did_as}
 use Rattle.shared_run.proofs.lines.run_share.Goals as goal
 use Rattle.shared_run.proofs.lines.run_share.Goals.{then-k-workers, else-k-workers}
@@ -22,8 +23,8 @@ loop-k-init g c =
       room = c.requires.room;
     }
 
-pub run_line-answer-requires-clause-shared : goal.run_line-answer-requires-clause-shared
-run_line-answer-requires-clause-shared g c = shared_at c.args.block.now c.loop-k.k c.index-block-k.result c.requires.shared c.loop-k-test.true c.index-block-k.is
+pub worker_line-reply-requires-clause-no_mount : goal.worker_line-reply-requires-clause-no_mount
+worker_line-reply-requires-clause-no_mount g c = no_mount_at c.args.block.now c.loop-k.k c.index-block-k.result c.requires.lines c.loop-k-test.true c.index-block-k.is
 
 pub put-requires : goal.put-requires
 put-requires g c =
@@ -43,17 +44,16 @@ loop-k-preserved g c =
     elim c.if-k-workers.branch [
       | then-k-workers w ↦
           let l = w.index-block-k.result in
-          let answer = w.run_line-answer.result in
-          let told = w.run_line-answer.ensures in
-          let later = g.met.D.CacheDoor.later c.loop-k.door w.run_line-answer.new.door told.stays in
-          let z = moment (g.S.BlobSource.view w.run_line-answer.new.source) (g.D.CacheDoor.view w.run_line-answer.new.door) in
-          let shared = shared_at block k l c.requires.shared c.loop-k-test.true w.index-block-k.is in
+          let x = w.worker_line-reply.result in
+          let told = w.worker_line-reply.ensures in
+          let later = g.met.D.CacheDoor.later c.loop-k.door w.worker_line-reply.new.door told.stays in
+          let z = moment (g.S.BlobSource.view w.worker_line-reply.new.source) (g.D.CacheDoor.view w.worker_line-reply.new.door) in
           let next = share_more c.args.workers c.args.worker k block l c.loop-k-test.true w.index-block-k.is (same_is _ _ w.if-k-workers.true) in
-          let did = line_did g.A.Archive.tells g.A.Archive.blobs c.args.config.now r c.args.now answer.report y z part c.loop-k.replies.items l answer.reply p shared i.did (g.met.D.CacheDoor.later c.args.door.now c.loop-k.door i.stays).frames_tell later.seen
-          told.reply told.mark told.kind told.source told.does in
+          let did = line_did g.A.Archive.tells g.A.Archive.blobs c.args.config.now r c.args.now no_bytes y z part c.loop-k.replies.items l x p i.did (g.met.D.CacheDoor.later c.args.door.now c.loop-k.door i.stays).frames_tell later.seen
+          told.reply told.mark told.kind told.source told.works in
           rw (w.replies-is, w.source-is, w.door-is) (record {
-            did = did_as e r (part ++ l ∷ []) (share c.args.workers c.args.worker 0 (take (k + 1) block)) (c.loop-k.replies.items ++ answer.reply ∷ []) w.put.new.replies.items p z z next w.put.ensures.items refl did;
-            stays = g.met.D.CacheDoor.stays_on c.args.door.now c.loop-k.door w.run_line-answer.new.door i.stays told.stays;
+            did = did_as e r (part ++ l ∷ []) (share c.args.workers c.args.worker 0 (take (k + 1) block)) (c.loop-k.replies.items ++ x ∷ []) w.put.new.replies.items p z z next w.put.ensures.items refl did;
+            stays = g.met.D.CacheDoor.stays_on c.args.door.now c.loop-k.door w.worker_line-reply.new.door i.stays told.stays;
             hold = told.hold;
             len = w.put.ensures.len ∙ ap (λ (n : ℕ). n + 1) i.len ∙ sym (ap length next ∙ length-append part (l ∷ []));
             room = omega (arith, i.room, w.put.ensures.room);

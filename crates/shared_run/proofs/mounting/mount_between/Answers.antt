@@ -1,0 +1,22 @@
+use Rattle.std.proofs.Common.{◌≡◌, ◌∙◌, ℕ, Bool, true, false, List, ap, refl}
+use Rattle.std.specs.Prelude.{◌||◌}
+use Rattle.cache_table.specs.Calls.{marks}
+use Rattle.script_run.proofs.Blocks.{does_live}
+use Rattle.shared_run.proofs.Together.{marks_both}
+use Rattle.shared_run.proofs.Runs.{block_ran}
+use Rattle.shared_run.proofs.Jobs.{map_map}
+use Rattle.shared_run.proofs.Between.{kept_between}
+use Rattle.shared_run.proofs.mounting.mount_between.Goals as goal
+
+or_none : (b : Bool) → (b || false) ≡ b
+or_none true = refl
+or_none false = refl
+
+pub returns-clause-unmounted : goal.returns-clause-unmounted
+returns-clause-unmounted g c = λ n.
+    let share = c.into_pass.result in
+    let same = (does_live _ _ c.mount_line-reply.result c.mount_line-reply.ensures.does).1 in
+    let none : marks share.view.unmounted n ≡ false = ap (λ (p : _). marks p.view.unmounted n) c.into_pass.ensures.pass ∙ ap (λ (f : ℕ → Bool). f n) same
+        ∙ ap (λ (p : _). marks p.view.unmounted n) c.new-door.ensures.pass ∙ ap (λ (v : _). marks v.unmounted n) c.split-share.ensures.new in
+    ap (λ (l : List ℕ). marks l n) c.join.ensures.unmounted ∙ marks_both c.split-share.new.pass.view.unmounted share.view.unmounted n
+    ∙ ap (λ (b : Bool). marks c.split-share.new.pass.view.unmounted n || b) none ∙ or_none (marks c.split-share.new.pass.view.unmounted n) ∙ ap (λ (v : _). marks v.unmounted n) c.split-share.ensures.old
