@@ -1,94 +1,72 @@
 #!/usr/bin/env python3
-"""Times `shard_maker::make`.
+"""Times the built program's command `make` at its largest: 4,000,000 pairs of a term and a document.
 
-Copies the crates into a new folder, puts a small program beside them that makes one archive and writes how many
-postings and blobs it has and how long its script is, builds it with `rt run`, and runs it RUNS times. Prints what the
-program wrote, then for each run the processor seconds and the seconds by the clock, and the least processor seconds of
-all. The first build proves what `rt check` has not kept on this machine.
+For each of three shapes it prints the line that was written, and of RUNS runs the least seconds by the clock, the least
+processor seconds and the greatest memory (at least that of this script, which starts the program), the whole process each.
+Then an archive of 20,000 documents is made twice and searched through a cache of 256 KiB, less than a tenth of it.
+It ends with status 1 where the least seconds by the clock of a shape are above 5, or where a line through that cache is
+not the one that was worked out apart from the program.
 
-usage: bench/make.py [DOCS [TERMS [RUNS]]]
+The script `mount_tool` at the top of the repository builds the program, and the runs start what it built, or the program
+that is named.
+
+usage: bench/make.py [RUNS [PROGRAM]]
 """
-import pathlib
+import os
 import resource
-import shutil
 import subprocess
 import sys
 import tempfile
 import time
 
-TOP = pathlib.Path(__file__).resolve().parent.parent
-CRATES = ["byte_text", "directory_input", "text_lines", "mount_manifest", "simpletext_postings", "mount_script", "shard_maker"]
-
-PROGRAM = """// Makes one archive, and writes how many postings and blobs it has and how long its script is.
-#![tactic(auto)]
-
-use shard_maker::{can_make, make};
-use std::io;
-use std::process::ExitCode;
-
-fn made(rt: &HostRuntime, docs: u32, terms: u32) -> io::Result<()> {
-    if !can_make(docs, terms) {
-        return Ok(());
-    }
-    match make(rt.alloc(), 3, docs, terms) {
-        Ok(made) => {
-            let bytes = made.script.as_bytes();
-            println!(rt; "{} postings, {} blobs, {} bytes of script", made.postings, made.blobs.len(), bytes.len())
-        }
-        Err(_) => println!(rt; "no memory"),
-    }
-}
-
-fn main(rt: HostRuntime) -> ExitCode {
-    match made(&rt, DOCS, TERMS) {
-        Ok(()) => ExitCode::from(0),
-        Err(_) => ExitCode::from(1),
-    }
-}
-"""
+MOST_SECONDS = 5
+SHAPES = [(100_000, 40), (2_000, 2_000), (40, 100_000)]
+SMALL_CACHE = ["seed=3", "docs=20000", "terms=100", "regions=4", "region=65536", "range=4096"]
+SMALL_CACHE_LINE = "made docs 20000 terms 100 postings 124906 total 77823 sum 287803\n"
 
 
-def lines_of(crates):
-    """The lines of these crates in crates.txt, and one for the program."""
-    lines = [l for l in (TOP / "crates.txt").read_text().split("\n") if l.split(":")[0].split(" ")[0] in crates]
-    uses = next(l.split(":", 1)[1] for l in lines if l.startswith("shard_maker:"))
-    return "\n".join(lines) + f"\nmake_once: shard_maker{uses}\n"
-
-
-def build(folder, docs, terms):
-    """Builds the program in a copy of the crates; gives its path."""
-    for crate in CRATES:
-        shutil.copytree(TOP / "crates" / crate, folder / "crates" / crate, ignore=shutil.ignore_patterns("out"))
-    source = folder / "crates" / "make_once" / "src" / "main.rt"
-    source.parent.mkdir(parents=True)
-    source.write_text(PROGRAM.replace("DOCS", str(docs)).replace("TERMS", str(terms)))
-    (folder / "crates.txt").write_text(lines_of(CRATES))
-    for crate in CRATES:
-        subprocess.run(["rt", "lib"], cwd=folder / "crates" / crate, check=True, stdout=subprocess.DEVNULL)
-    subprocess.run(["rt", "run"], cwd=source.parent.parent, check=True, stdout=subprocess.DEVNULL, stderr=subprocess.DEVNULL)
-    return source.parent.parent / "out" / "make_once"
-
-
-def spent():
+def used():
     usage = resource.getrusage(resource.RUSAGE_CHILDREN)
     return usage.ru_utime + usage.ru_stime
 
 
+def measured(words, runs):
+    """What the program wrote, its least seconds by the clock, its least processor seconds, its greatest memory in KiB."""
+    written, clock, processor = "", [], []
+    for _ in range(runs):
+        before, began = used(), time.monotonic()
+        done = subprocess.run(words, stdin=subprocess.DEVNULL, capture_output=True, text=True, check=False)
+        clock.append(time.monotonic() - began)
+        processor.append(used() - before)
+        if done.returncode != 0:
+            sys.exit("%s: status %d" % (" ".join(words), done.returncode))
+        written = done.stdout
+    return written, min(clock), min(processor), resource.getrusage(resource.RUSAGE_CHILDREN).ru_maxrss
+
+
 def main():
-    docs = int(sys.argv[1]) if len(sys.argv) > 1 else 100_000
-    terms = int(sys.argv[2]) if len(sys.argv) > 2 else 40
-    runs = int(sys.argv[3]) if len(sys.argv) > 3 else 5
-    with tempfile.TemporaryDirectory() as name:
-        program = build(pathlib.Path(name), docs, terms)
-        print(subprocess.run([program], check=True, capture_output=True, text=True).stdout, end="")
-        least = None
-        for _ in range(runs):
-            before, began = spent(), time.monotonic()
-            subprocess.run([program], check=True, stdout=subprocess.DEVNULL)
-            used = spent() - before
-            print(f"{used:.3f} processor seconds, {time.monotonic() - began:.3f} by the clock")
-            least = used if least is None else min(least, used)
-        print(f"least: {least:.3f} processor seconds for {docs} documents and {terms} terms")
+    runs = int(sys.argv[1]) if len(sys.argv) > 1 else 3
+    top = os.path.dirname(os.path.dirname(os.path.abspath(__file__)))
+    program = os.path.join(top, "crates", "mount_tool", "out", "mount_tool")
+    if len(sys.argv) > 2:
+        program = sys.argv[2]
+    else:
+        subprocess.run([os.path.join(top, "mount_tool")], capture_output=True, check=False)
+    slow = False
+    with tempfile.TemporaryDirectory() as folder:
+        for docs, terms in SHAPES:
+            words = [program, folder, "-", "make", "seed=3", "docs=%d" % docs, "terms=%d" % terms]
+            written, clock, processor, memory = measured(words, runs)
+            print(written, end="")
+            print("  %.2f s by the clock, %.2f s of a processor, %d KiB" % (clock, processor, memory))
+            slow = slow or clock > MOST_SECONDS
+        wrong = False
+        for _ in range(2):
+            written, clock, processor, _memory = measured([program, folder, "-", "make"] + SMALL_CACHE, 1)
+            print(written, end="")
+            print("  %.2f s by the clock, %.2f s of a processor, through a small cache" % (clock, processor))
+            wrong = wrong or written != SMALL_CACHE_LINE
+    sys.exit(1 if slow or wrong else 0)
 
 
 if __name__ == "__main__":

@@ -4,8 +4,9 @@ use Rattle.std.specs.Prelude.{Option, Some, None, nat_lt, nat_le, not, ◌||◌}
 use Rattle.std.proofs.lemmas.Bool.{false≢true}
 use Rattle.std.proofs.lemmas.Bool.Decides.{nat_tests}
 use Rattle.run_setup.specs.declared.settings.RunSettings.{RunSettings}
+use Rattle.run_setup.specs.declared.make_settings.MakeSettings.{MakeSettings}
 use Rattle.run_setup.specs.Settings.{in_limits}
-use Rattle.run_setup.specs.Words.{Command, Term, term, run, asks}
+use Rattle.run_setup.specs.Words.{Command, Term, term, run, make, asks}
 use Rattle.mount_tool.specs.Calls.{refuses, taken_on}
 
 first : (a b : Bool) → (a && b) ≡ true → a ≡ true
@@ -28,6 +29,9 @@ run_taken sources c s is alone some =
     let one : nat_lt 1 s.workers ≡ false = sym (ap asks is) ∙ alone in
     let e : nat_le s.workers sources ≡ true = grind (arith, nat_tests) in
     rw (is, e, one) refl
+
+pub make_taken : (sources : ℕ) (c : Option Command) (m : MakeSettings) → c ≡ Some (make m) → asks c ≡ false → taken_on sources c ≡ Some (make m)
+make_taken sources c m is alone = let one : nat_lt 1 m.run.workers ≡ false = sym (ap asks is) ∙ alone in rw (is, one) refl
 
 pub term_untaken : (t : Term) → taken_on 0 (Some (term t)) ≡ None
 term_untaken t = refl

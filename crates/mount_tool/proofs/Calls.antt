@@ -9,13 +9,16 @@ use Rattle.cache_outside.specs.Frames.{MakerView}
 use Rattle.cache_outside.specs.Sinks.{SinkView}
 use Rattle.cache_outside.specs.Clocks.{ClockView}
 use Rattle.run_setup.specs.declared.settings.RunSettings.{RunSettings}
+use Rattle.run_setup.specs.declared.make_settings.MakeSettings.{MakeSettings}
 use Rattle.run_setup.specs.Settings.{in_limits}
-use Rattle.run_setup.specs.Words.{Command, Term, term, run, command, asks}
+use Rattle.run_setup.specs.Words.{Command, Term, term, run, make, command, asks}
 use Rattle.mount_tool.specs.Replies.{usage_text}
 use Rattle.mount_tool.specs.Runs.{IsNoted, IsTermRun}
-use Rattle.mount_tool.specs.Calls.{World, world, OnlyWrote, IsScriptRun, CallEnds, IsCall, is_refused, refuses, taken_on}
+use Rattle.mount_tool.specs.Makes.{IsMakeRun}
+use Rattle.mount_tool.specs.Calls.{World, world, OnlyWrote, IsScriptRun, CallEnds, IsCall, is_refused, refuses, taken_on, MakeIsWhole}
 use Rattle.mount_tool.proofs.Usage.{only_refused}
-use Rattle.mount_tool.proofs.Accepted.{none_taken, term_taken, run_taken, term_untaken, run_untaken, threads_untaken, threads_refused}
+use Rattle.mount_tool.proofs.Makes.{run_whole}
+use Rattle.mount_tool.proofs.Accepted.{none_taken, term_taken, run_taken, make_taken, term_untaken, run_untaken, threads_untaken, threads_refused}
 
 -- `usage` was written
 pub refused_call : (tells : Bool) (blobs : Listing) (words : List (List ℕ)) (sources : List SourceView) (text : TextView) (m : MakerView) (k l : SinkView) (c : ClockView) (status : ℕ)
@@ -56,6 +59,13 @@ run_call view (x ∷ xs) a b tells blobs words text now m n k l c d s status som
     run_here tells blobs words (view x) (view b) (map view xs) text now m n k l c d s status asked alone
     (subst (λ y. IsScriptRun tells blobs s (world text m k c (view y ∷ map view xs)) (world now n l d (view b ∷ map view xs)) status) is (h (map view xs)))
 
+-- an archive was made, and nothing of the sources was asked
+pub make_call : (sources : List SourceView) (tells : Bool) (blobs : Listing) (words : List (List ℕ)) (text : TextView) (m n : MakerView) (k l : SinkView) (c d : ClockView) (s : MakeSettings) (status : ℕ)
+    → command words ≡ Some (make s) → asks (command words) ≡ false → IsMakeRun s m.faults n.faults k l c d status
+    → IsCall tells blobs words (world text m k c sources) (world text n l d sources) status
+make_call sources tells blobs words text m n k l c d s status is alone h =
+    rw (make_taken (length sources) (command words) s is alone) (h, refl, refl)
+
 -- the first source is still the same
 pub same_identity : {S : Type 0} (view : S → SourceView) (sources : List S) (a b : S) → 0 < length sources → a ≡ get_or sources 0 a → (view b).identity ≡ (view a).identity
     → map (λ s. (view s).identity) (set sources 0 b) ≡ map (λ s. (view s).identity) sources
@@ -68,3 +78,9 @@ pub usage_of : {S : Type 0} (view : S → SourceView) (sources : List S) (tells 
 usage_of view sources tells blobs words text m k c y status h two =
     subst (λ n. refuses n (command words) ≡ true) (length-map sources view)
     (only_refused tells blobs (length (map view sources)) (command words) (world text m k c (map view sources)) y status h two)
+
+-- words of `make`, where nothing failed
+pub make_is_whole : MakeIsWhole
+make_is_whole tells blobs words m x y status is call frames sink =
+    let h : CallEnds tells blobs (Some (make m)) x y status = subst (λ c. CallEnds tells blobs c x y status) is call in
+    run_whole m _ _ _ _ _ _ status h.0 frames sink

@@ -4,4 +4,5 @@ pub mod Usage
 pub mod Accepted
 pub mod Ends
 pub mod Cores
+pub mod Makes
 pub mod Calls

@@ -4,12 +4,16 @@ use Rattle.std.specs.Prelude.{Option, Some, None, if◌then◌else◌}
 use Rattle.cache_outside.specs.Listing.{Listing}
 use Rattle.mount_script.specs.declared.reply.Reply.{Reply}
 use Rattle.mount_script.specs.declared.reply.Reply.TheVariants.{Mounted, Unmounted, Cleared, Decayed, Hits, Fields, Bytes, Stats, Refused, Fault, Gone, NoMemory}
+use Rattle.cache_outside.specs.Clocks.{ClockView}
+use Rattle.cache_outside.specs.Sinks.{SinkView}
 use Rattle.run_setup.specs.declared.settings.RunSettings.{RunSettings}
-use Rattle.run_setup.specs.Words.{Command, Term, term, run}
+use Rattle.run_setup.specs.declared.make_settings.MakeSettings.{MakeSettings}
+use Rattle.run_setup.specs.Words.{Command, Term, term, run, make}
 use Rattle.script_run.specs.declared.ended.Ended.{Ended}
 use Rattle.script_run.specs.declared.ended.Ended.TheVariants as ended
 use Rattle.mount_tool.specs.Replies.{status_of, run_status}
 use Rattle.mount_tool.specs.Runs.{IsTermRun}
+use Rattle.mount_tool.specs.Makes.{MakeEnding, without_frames, without_room, searched, MakeEnds, SearchesEnd, IsMakeRun}
 use Rattle.mount_tool.specs.Calls.{World, RunEnding, unread, no_script, no_frame, no_room, ran, RunEnds, IsScriptRun, CallEnds, refuses, taken_on}
 
 reply_status : (r : Reply) → status_of r ≡ 2 → ⊥
@@ -48,6 +52,19 @@ run_ends tells blobs s x y (no_frame t blocks) status h two = let f = h.1 in ome
 run_ends tells blobs s x y no_room status h two = let f = h.0 in omega (arith, f, two)
 run_ends tells blobs s x y (ran t blocks told numbers ended) status h two = ended_status ended (sym h.1 ∙ two)
 
+zero_status : (own : ℕ) → own ≡ 0 → own ≡ 2 → ⊥
+zero_status own zero two = omega (arith, zero, two)
+
+searches_end : (m : MakeSettings) (k l : SinkView) (total sum : ℕ) (e : Ended) (status : ℕ) → SearchesEnd m k l total sum e status → status ≡ 2 → ⊥
+searches_end m k l total sum (ended.Done marked) status h two = written_status _ _ _ 0 status h (zero_status 0 refl) two
+searches_end m k l total sum ended.SinkFault status h two = h
+searches_end m k l total sum ended.NoMemory status h two = let f = h.0 in omega (arith, f, two)
+
+make_ends : (m : MakeSettings) (faults now : ℕ) (k l : SinkView) (c d : ClockView) (ending : MakeEnding) (status : ℕ) → MakeEnds m faults now k l c d ending status → status ≡ 2 → ⊥
+make_ends m faults now k l c d without_frames status h two = let f = h.0 in omega (arith, f, two)
+make_ends m faults now k l c d without_room status h two = let f = h.0 in omega (arith, f, two)
+make_ends m faults now k l c d (searched a b numbers ended total sum) status h two = searches_end m k l total sum ended status h.3 two
+
 chosen : (b : Bool) (c : Command) → (if b then None else Some c) ≡ None → b ≡ true
 chosen true c e = refl
 chosen false c e = absurd cc
@@ -56,6 +73,7 @@ only_none : (tells : Bool) (blobs : Listing) (c : Option Command) (x y : World) 
 only_none tells blobs None x y status h two = refl
 only_none tells blobs (Some (term t)) x y status h two = absurd (written_status _ _ _ _ status h.0.written (reply_status h.0.reply) two)
 only_none tells blobs (Some (run s)) x y status h two = absurd (run_ends tells blobs s x y h.ending status h.ends two)
+only_none tells blobs (Some (make m)) x y status h two = absurd (make_ends m _ _ _ _ _ _ h.0.ending status h.0.ends two)
 
 refused_by : (sources : ℕ) (c : Option Command) → taken_on sources c ≡ None → refuses sources c ≡ true
 refused_by sources None e = refl

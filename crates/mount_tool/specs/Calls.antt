@@ -11,14 +11,16 @@ use Rattle.mount_script.specs.Scripts.{script}
 use Rattle.mount_script.specs.declared.command.Line.{Line}
 use Rattle.mount_script.specs.declared.error.ScriptError.{ScriptError}
 use Rattle.run_setup.specs.declared.settings.RunSettings.{RunSettings}
+use Rattle.run_setup.specs.declared.make_settings.MakeSettings.{MakeSettings}
 use Rattle.run_setup.specs.Texts.{IsRead}
-use Rattle.run_setup.specs.Words.{Command, term, run, command, has_sources, asks}
+use Rattle.run_setup.specs.Words.{Command, term, run, make, command, has_sources, asks}
 use Rattle.script_run.specs.Blocks.{alone}
 use Rattle.script_run.specs.Counters.{CoreNumbers}
 use Rattle.script_run.specs.Runs.{IsRun, outside}
 use Rattle.script_run.specs.declared.ended.Ended.{Ended}
 use Rattle.mount_tool.specs.Replies.{usage_text, error_text, run_status}
 use Rattle.mount_tool.specs.Runs.{IsNoted, IsTermRun}
+use Rattle.mount_tool.specs.Makes.{IsMakeRun, IsMade}
 
 -- ---- what a call is handed
 
@@ -104,7 +106,17 @@ CallEnds tells blobs (Some (term t)) x y status =
     IsTermRun tells blobs t (first_source x.sources).faults (first_source y.sources).faults x.sink y.sink status
     × (y.text ≡ x.text) × (y.maker ≡ x.maker) × (y.clock ≡ x.clock)
 CallEnds tells blobs (Some (run s)) x y status = IsScriptRun tells blobs s x y status
+CallEnds tells blobs (Some (make m)) x y status =
+    IsMakeRun m x.maker.faults y.maker.faults x.sink y.sink x.clock y.clock status × (y.text ≡ x.text) × (y.sources ≡ x.sources)
 
 -- A call with these words, over an archive that tells or not: what is done by the words that are accepted, and how it ends.
 abbrev pub IsCall : Bool → Listing → List (List ℕ) → World → World → ℕ → Type 0
 IsCall tells blobs words x y status = CallEnds tells blobs (accepted words (length x.sources)) x y status
+
+-- ---- completeness
+
+-- where the words ask for `make`, and neither the maker of frames nor the sink failed, the line was written whole, or memory was wanted
+abbrev pub MakeIsWhole : Type 0
+MakeIsWhole = (tells : Bool) (blobs : Listing) (words : List (List ℕ)) (m : MakeSettings) (x y : World) (status : ℕ)
+    → accepted words (length x.sources) ≡ Some (make m) → IsCall tells blobs words x y status
+    → (Rose x.maker.faults y.maker.faults → ⊥) → (Rose x.sink.faults y.sink.faults → ⊥) → IsMade m x.sink y.sink status

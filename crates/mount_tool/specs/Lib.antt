@@ -1,5 +1,6 @@
 pub mod Replies
 pub mod Terms
 pub mod Runs
+pub mod Makes
 pub mod Calls
 pub mod Steps

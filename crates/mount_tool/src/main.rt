@@ -2,6 +2,8 @@
 // are the files of a folder. The words and what is written stand in docs/FORMATS.md.
 #![tactic(auto)]
 
+mod hit_sums;
+mod make;
 mod note;
 mod program;
 mod run;
@@ -10,6 +12,7 @@ mod search;
 mod term;
 
 use cache_outside::{StdSink, Untold};
+pub use make::make_is_whole;
 use program::Handed;
 pub use run::{Outcome, mount_alone, mount_tool};
 pub use run_setup::asks_threads;

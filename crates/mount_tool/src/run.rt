@@ -3,6 +3,7 @@ ghost use Rattle.std.specs.Prelude.{◌≡◌, length, map, drop, true, false};
 ghost use Rattle.run_setup.specs.Words.{texts, command, asks};
 ghost use Rattle.mount_tool.specs.Calls.{IsCall, world, is_refused};
 
+use crate::make::run_make;
 use crate::note::note;
 use crate::script::run_script;
 use crate::term::run_term;
@@ -57,6 +58,10 @@ where
         let status = note(sink, USAGE, 2);
         return Outcome { status, sources };
     };
+    if let Asked::Make(settings) = asked {
+        let status = run_make::<K, C, M>(alloc, &settings, frames, sink, clock);
+        return Outcome { status, sources };
+    }
     if sources.is_empty() {
         let status = note(sink, USAGE, 2);
         return Outcome { status, sources };
@@ -71,6 +76,7 @@ where
         Asked::Run(settings) => run_script::<A, S, T, K, C, M>(
             alloc, &settings, script, source, frames, sink, clock,
         ),
+        Asked::Make(_) => unreachable!(),
     };
     Outcome { status, sources }
 }

@@ -56,7 +56,7 @@ fn refuse<K: Sink>(alloc: Global, sink: &mut K, error: &ScriptError) -> u8
 }
 
 /// Runs a script by one worker, over a new cache.
-fn run_blocks<A: Archive + Drop, S: BlobSource<A>, K: Sink, C: Clock, M: FrameMaker>(
+pub(crate) fn run_blocks<A: Archive + Drop, S: BlobSource<A>, K: Sink, C: Clock, M: FrameMaker>(
     alloc: Global,
     settings: &RunSettings,
     script: &Script,

@@ -1,4 +1,5 @@
 pub mod Settings
+pub mod MakeSettings
 pub mod Words
 pub mod Asked
 pub mod Texts

@@ -23,14 +23,14 @@ pub struct RunSettings {
 }
 
 /// What stands behind the key in a word that begins with it.
-fn behind_key<'w>(key: &[u8], word: &'w [u8]) -> Option<&'w [u8]>
+pub(crate) fn behind_key<'w>(key: &[u8], word: &'w [u8]) -> Option<&'w [u8]>
     ensures { option_map (λ s. s.now) result ≡ behind_key key.now word.now }
 {
     word.strip_prefix(key)
 }
 
 /// Whether the word begins with the key of a setting.
-fn is_setting(word: &[u8]) -> bool
+pub(crate) fn is_setting(word: &[u8]) -> bool
     ensures { result ≡ is_setting word.now }
 {
     behind_key(b"workers=", word).is_some()
@@ -87,7 +87,7 @@ impl RunSettings {
     }
 
     /// Whether the numbers keep their limits.
-    fn in_limits(&self) -> bool
+    pub(crate) fn in_limits(&self) -> bool
         ensures { result ≡ in_limits self.now }
     {
         let workers = 0 < self.workers && self.workers <= 8;
@@ -101,7 +101,8 @@ impl RunSettings {
     }
 }
 
-fn numbers(words: &[String]) -> Option<RunSettings>
+/// The numbers of the words, with their defaults, whatever their limits.
+pub(crate) fn numbers(words: &[String]) -> Option<RunSettings>
     ensures { result ≡ numbers (texts words.now) }
 {
     let workers = at_most_one(words, b"workers=", 1)?;

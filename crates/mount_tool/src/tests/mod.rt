@@ -1,5 +1,6 @@
 // Tests of the top call over archives in memory, and of the program over a folder.
 mod folder_tests;
+mod make_tests;
 mod run_tests;
 mod term_tests;
 

@@ -1,0 +1,111 @@
+// The command `make`: an archive that is made of a number, its searches, and a line of what there is and was found.
+ghost use Rattle.std.specs.Prelude.{◌≡◌, true, IfOk, string_bytes};
+ghost use Rattle.run_setup.specs.MakeSettings.{can_be_made};
+ghost use Rattle.mount_tool.specs.Runs.{IsWritten};
+ghost use Rattle.mount_tool.specs.Makes.{IsMakeRun, made_line, postings_of};
+ghost use Rattle.mount_tool.specs.Calls.{MakeIsWhole};
+
+use crate::hit_sums::HitSums;
+use crate::script::run_blocks;
+use cache_outside::{Clock, FrameMaker, MemSource, OutError, Sink, Untold};
+use mount_script::Script;
+use run_setup::MakeSettings;
+use script_run::write_all;
+use shard_maker::{Made, make};
+use std::alloc::{AllocError, Global};
+
+/// At most so many bytes are given by one read of a blob.
+const STEP: usize = 65_536;
+
+/// The line of what was made and found.
+fn summary(
+    alloc: Global,
+    settings: &MakeSettings,
+    postings: u64,
+    hits: &HitSums,
+) -> Result<String, AllocError>
+    requires { postings ≡ postings_of settings.now }
+    ensures { IfOk result (λ s. string_bytes s ≡ made_line settings.now hits.now.total hits.now.sum) }
+{
+    let MakeSettings { docs, terms, .. } = *settings;
+    let total = hits.total;
+    let sum = hits.sum;
+    format!(in alloc;
+        "made docs {docs} terms {terms} postings {postings} total {total} sum {sum}\n"
+    )
+}
+
+/// Writes the line, and gives the status: 0, 5 where the sink failed, 6 for want of memory.
+fn write_summary<K: Sink>(
+    alloc: Global,
+    sink: &mut K,
+    settings: &MakeSettings,
+    postings: u64,
+    hits: &HitSums,
+) -> u8
+    requires { postings ≡ postings_of settings.now }
+    ensures { IsWritten (K.view sink.old) (K.view sink.new)
+        (made_line settings.now hits.now.total hits.now.sum) 0 result }
+{
+    let Ok(text) = summary(alloc, settings, postings, hits) else {
+        return 6;
+    };
+    match write_all(sink, text.as_str().as_bytes()) {
+        Ok(()) => 0,
+        Err(OutError::Failed) => 5,
+        Err(OutError::NoMemory) => 6,
+    }
+}
+
+/// Makes an archive, runs its script by one worker over a source in memory, writes the line, and gives the status.
+///
+/// 7 comes only where the maker of frames failed, and 5 only where the sink did. 6 is want of memory; where it was
+/// wanted before the line, nothing is written.
+pub(crate) fn run_make<K: Sink, C: Clock, M: FrameMaker>(
+    alloc: Global,
+    settings: &MakeSettings,
+    frames: &mut M,
+    sink: &mut K,
+    clock: &mut C,
+) -> u8
+where
+    M::F: Drop,
+    requires limits { can_be_made settings.now ≡ true }
+    ensures run { IsMakeRun settings.now (M.view frames.old).faults (M.view frames.new).faults
+        (K.view sink.old) (K.view sink.new) (C.view clock.old) (C.view clock.new) result }
+{
+    let docs = settings.docs as u32;
+    let terms = settings.terms as u32;
+    let Ok(made) = make(alloc, settings.seed, docs, terms) else {
+        return 6;
+    };
+    let Made {
+        blobs,
+        postings,
+        script,
+    } = made;
+    let Ok(script) = Script::read(alloc, script.as_bytes()) else {
+        return 6;
+    };
+    let mut source = MemSource::<Untold>::new(alloc, blobs, STEP, Vec::new(alloc));
+    let mut hits = HitSums::new();
+    let status = run_blocks::<Untold, MemSource<Untold>, HitSums, C, M>(
+        alloc,
+        &settings.run,
+        &script,
+        &mut source,
+        frames,
+        &mut hits,
+        clock,
+    );
+    if status > 1 {
+        return status;
+    }
+    write_summary(alloc, sink, settings, postings, &hits)
+}
+
+/// A law of the top call: where the words ask for `make`, and neither the maker of frames nor the sink failed, the line
+/// is written whole, with status 0; or memory was wanted, with status 6.
+pub fn make_is_whole()
+    ensures { MakeIsWhole }
+{}
