@@ -27,10 +27,11 @@ module _ {J : Type 0} (source : J → SourceView) (pass : J → Option PassView)
   jobs_ran i [] [] n h = tt {0}
   jobs_ran i [] (k ∷ ks) n h = absurd (omega (arith, n))
   jobs_ran i (j ∷ js) [] n h = absurd (omega (arith, n))
-  jobs_ran i (j ∷ js) (k ∷ ks) n h =
-      (subst (λ (m : ℕ). JobRan e c r (share w m 0 block) (replies k) (source j) (source k) (pass j) (pass k)) (add-zero i) (h 0 j (omega arith)),
-      jobs_ran (i + 1) js ks (omega (arith, n))
-      (λ m d below. subst (λ (o : ℕ). JobRan e c r (share w o 0 block) (replies (get_or ks m d)) (source (get_or js m d)) (source (get_or ks m d)) (pass (get_or js m d)) (pass (get_or ks m d))) (next i m) (h (suc m) d (omega (arith, below)))))
+  jobs_ran i (j ∷ js) (k ∷ ks) n h = (
+    subst (λ (m : ℕ). JobRan e c r (share w m 0 block) (replies k) (source j) (source k) (pass j) (pass k)) (add-zero i) (h 0 j (omega arith)),
+    jobs_ran (i + 1) js ks (omega (arith, n))
+        (λ m d below. subst (λ (o : ℕ). JobRan e c r (share w o 0 block) (replies (get_or ks m d)) (source (get_or js m d)) (source (get_or ks m d)) (pass (get_or js m d)) (pass (get_or ks m d))) (next i m) (h (suc m) d (omega (arith, below)))),
+  )
 
   dealt_ready : (p : PassView) (o : Option PassView) → IsDealt c p o → IsReady c o
   dealt_ready p None h = absurd h

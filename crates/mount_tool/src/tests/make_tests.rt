@@ -8,9 +8,9 @@ use std::alloc::AllocError;
 
 type Row = (&'static [&'static str], &'static str);
 
-/// Words behind `make`, and the line. Each line is that of a script of twenty lines of Python over the definition of the
-/// generator, the pairs and the searches, and none is this program's. The first two by hand: seed 5 draws 0, so that
-/// document 0 has term 0, and of the 64 searches the 48 that do not leave it out find it; seed 1 draws 6.
+/// Words behind `make`, and the line. Each line is that of a script of twenty lines of Python over the definition of
+/// the generator, the pairs and the searches, and none is this program's. The first two by hand: seed 5 draws 0, so
+/// that document 0 has term 0, and of the 64 searches the 48 that do not leave it out find it; seed 1 draws 6.
 const ROWS: [Row; 7] = [
     (
         &["seed=5", "docs=1", "terms=1"],

@@ -33,7 +33,7 @@ returns-clause-did g c =
     let xss = map into_iter_items queues in
     let same = c.run_dealt-queues.ensures.count in
     let each : (i : ℕ) → i < w → share w i 0 c.in_order.new.replies.items ≡ get_or xss i [] = λ i below.
-        ap (λ (n : ℕ). share n i 0 c.in_order.new.replies.items) (sym same) ∙ c.in_order.ensures.each i (omega (arith, below, same)) in
+    ap (λ (n : ℕ). share n i 0 c.in_order.new.replies.items) (sym same) ∙ c.in_order.ensures.each i (omega (arith, below, same)) in
     let base = block_did e c.args.cache.now c.args.roster.now w c.args.block.now c.in_order.new.replies.items c.args.pass.now c.run_dealt-queues.new.pass xss (map view (take w given)) (map view c.run_dealt-queues.new.sources.items) (map view (drop w given))
     (omega (arith, c.requires.workers.0)) c.run_dealt-queues.ensures.ran c.in_order.ensures.many each in
     let olds : map view (take w given) ++ map view (drop w given) ≡ map view c.args.sources.now.items = sym (map-append view (take w given) (drop w given)) ∙ ap (map view) (take-append-drop w given ∙ all) in
@@ -43,12 +43,13 @@ returns-clause-did g c =
     (subst (λ (b : List SourceView). BlockDid e c.args.cache.now w c.args.roster.now c.args.block.now c.in_order.new.replies.items (map view (take w given) ++ map view (drop w given)) b c.args.pass.now c.run_dealt-queues.new.pass) news base)
 
 same_shares : goal.returns-clause-pass
-same_shares g c =
-    (c.run_dealt-queues.ensures.idle,
-    shares_same (cached g.A.Archive.tells g.A.Archive.blobs c.args.config.now) c.args.cache.now c.args.roster.now c.args.workers c.args.block.now c.in_order.new.replies.items c.args.pass.now c.run_dealt-queues.new.pass
-    (map into_iter_items c.run_dealt-queues.result.items) _ _ [] (omega (arith, c.requires.workers.0)) c.run_dealt-queues.ensures.ran c.in_order.ensures.many
-    (λ i below. ap (λ (n : ℕ). share n i 0 c.in_order.new.replies.items) (sym c.run_dealt-queues.ensures.count) ∙ c.in_order.ensures.each i (omega (arith, below, c.run_dealt-queues.ensures.count)))
-    (omega (arith, c.requires.shares)))
+same_shares g c = (
+  c.run_dealt-queues.ensures.idle,
+  shares_same (cached g.A.Archive.tells g.A.Archive.blobs c.args.config.now) c.args.cache.now c.args.roster.now c.args.workers c.args.block.now c.in_order.new.replies.items c.args.pass.now c.run_dealt-queues.new.pass
+      (map into_iter_items c.run_dealt-queues.result.items) _ _ [] (omega (arith, c.requires.workers.0)) c.run_dealt-queues.ensures.ran c.in_order.ensures.many
+      (λ i below. ap (λ (n : ℕ). share n i 0 c.in_order.new.replies.items) (sym c.run_dealt-queues.ensures.count) ∙ c.in_order.ensures.each i (omega (arith, below, c.run_dealt-queues.ensures.count)))
+      (omega (arith, c.requires.shares)),
+)
 
 pub returns-clause-pass : goal.returns-clause-pass
 returns-clause-pass g c = same_shares g c

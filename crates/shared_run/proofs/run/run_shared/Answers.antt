@@ -31,9 +31,9 @@ returns-in_default-clause-run g c =
     let base = stopped s c.args.script.now c.loop-i.i c.loop-i.roster c.loop-i.marked c.loop-i.lacking (map view c.args.sources.now.items) (map view c.loop-i.sources.items)
     (g.C.Clock.view c.args.clock.now) (g.C.Clock.view c.loop-i.clock) (g.C.Clock.view c.now-now.new.self) c.args.pass.now c.loop-i.pass (g.K.Sink.view c.args.sink.now) (g.K.Sink.view c.loop-i.sink) c.loop-i.invariant.written c.now-now.ensures.clock in
     subst (λ (p : PassView). IsSharedRun s c.args.script.now (outsides (map view c.args.sources.now.items) (g.K.Sink.view c.args.sink.now) (g.C.Clock.view c.args.clock.now))
-        (outsides (map view c.next_block.new.sources.items) (g.K.Sink.view c.loop-i.sink) (g.C.Clock.view c.now-now.new.self)) c.args.pass.now p NoMemory) (sym same.0)
+    (outsides (map view c.next_block.new.sources.items) (g.K.Sink.view c.loop-i.sink) (g.C.Clock.view c.now-now.new.self)) c.args.pass.now p NoMemory) (sym same.0)
     (subst (λ (l : List SourceView). IsSharedRun s c.args.script.now (outsides (map view c.args.sources.now.items) (g.K.Sink.view c.args.sink.now) (g.C.Clock.view c.args.clock.now))
-        (outsides l (g.K.Sink.view c.loop-i.sink) (g.C.Clock.view c.now-now.new.self)) c.args.pass.now c.loop-i.pass NoMemory) (ap (map view) (sym same.2)) base)
+    (outsides l (g.K.Sink.view c.loop-i.sink) (g.C.Clock.view c.now-now.new.self)) c.args.pass.now c.loop-i.pass NoMemory) (ap (map view) (sym same.2)) base)
 
 pub write_block-requires : goal.write_block-requires
 write_block-requires g c =
