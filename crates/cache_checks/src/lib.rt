@@ -10,8 +10,6 @@ mod doors;
 #[cfg(test)]
 mod faulty;
 #[cfg(test)]
-mod passes;
-#[cfg(test)]
 mod reads;
 #[cfg(test)]
 mod samples;

@@ -2,10 +2,4 @@
 #![tactic(auto)]
 
 #[cfg(test)]
-mod copiers;
-#[cfg(test)]
-mod passes;
-#[cfg(test)]
-mod samples;
-#[cfg(test)]
-mod workers;
+mod tests;
