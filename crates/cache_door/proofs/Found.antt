@@ -8,6 +8,7 @@ use Rattle.sparse_tracker.specs.declared.gaps.OpenGap.{OpenGap}
 use Rattle.sparse_tracker.specs.declared.tickets.Ticket.{Ticket}
 use Rattle.sparse_tracker.specs.ByteStates.{gap_of, ticket_of}
 use Rattle.sparse_tracker.specs.Weights.{total, by_ticket, by_gap}
+use Rattle.sparse_tracker.proofs.Heavy.{heavy, first_is, same_gap}
 use Rattle.cache_door.specs.declared.hold.Hold.{Hold}
 use Rattle.cache_door.specs.Machine.{State, cell_at, hold_at}
 use Rattle.cache_door.specs.Good.{Good, weigh_hold, hold_ticket, hold_gap}
@@ -33,33 +34,6 @@ marked a b c x y z h = elim (cases_Bool (x == a)) [
 
 pub mark_self : (a b c : ℕ) → mark a b c a b c ≡ 1
 mark_self a b c = rw (same_is a a refl, same_is b b refl, same_is c c refl) refl
-
--- an entry that weighs something
-pub heavy : {X : Type 0} (f : X → ℕ) (xs : List X) → 0 < total f xs → (j : ℕ) × ((x : X) × (slice_get xs j ≡ Some x) × (0 < f x))
-heavy f [] h = absurd (omega (arith, h))
-heavy f (x ∷ xs) h = elim (cases_lt 0 (f x)) [
-  | inl l ↦ (0, (x, refl, l))
-  | inr g ↦ let k = heavy f xs (omega (arith, h, g)) in (suc k.0, k.1)
-]
-
--- the first entry that passes a test, where one does, passes it and stands at some place
-pub first_is : {X : Type 0} (p : X → Bool) (xs : List X) (j : ℕ) (x : X) → slice_get xs j ≡ Some x → p x ≡ true → (i : ℕ) × ((y : X) × (find p xs ≡ Some y) × (slice_get xs i ≡ Some y) × (p y ≡ true))
-first_is p [] j x e t = absurd (cc)
-first_is p (y ∷ ys) zero x e t = elim (cases_Bool (p y)) [
-  | inl u ↦ (0, (y, rw u refl, refl, u))
-  | inr f ↦ absurd (false≢true (sym f ∙ (let i : y ≡ x = (cc) in ap p i ∙ t)))
-]
-first_is p (y ∷ ys) (suc j) x e t = elim (cases_Bool (p y)) [
-  | inl u ↦ (0, (y, rw u refl, refl, u))
-  | inr f ↦ let k = first_is p ys j x e t in (suc k.0, (k.1.0, rw f k.1.1, k.1.2, k.1.3))
-]
-
--- gaps are told by their numbers
-pub same_gap : (o p : OpenGap) → o.id ≡ p.id → o.upto ≡ p.upto → o.end ≡ p.end → o ≡ p
-same_gap o p a b c =
-    ap (λ (i : ℕ). let g : OpenGap = record { id = i; upto = o.upto; end = o.end } in g) a
-    ∙ ap (λ (i : ℕ). let g : OpenGap = record { id = p.id; upto = i; end = o.end } in g) b
-    ∙ ap (λ (i : ℕ). let g : OpenGap = record { id = p.id; upto = p.upto; end = i } in g) c
 
 hold_weighs : (f : Hold → ℕ) (s : State) (a : ℕ) (h : Hold) → hold_at s a ≡ Some h → f h ≤ total (weigh_hold h.region f) s.holds
 hold_weighs f s a h e = elim (cases_lt a (length s.holds)) [

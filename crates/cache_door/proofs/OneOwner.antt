@@ -14,7 +14,8 @@ use Rattle.cache_door.specs.Good.{weigh_hold, hold_gap}
 use Rattle.cache_door.specs.Laws.{OneOwner}
 use Rattle.cache_door.proofs.Weighs.{total-at, total-set, weigh_here}
 use Rattle.cache_door.proofs.Places.{past}
-use Rattle.cache_door.proofs.Found.{mark, marked, mark_self, heavy, found_gap}
+use Rattle.cache_door.proofs.Found.{mark, marked, mark_self, found_gap}
+use Rattle.sparse_tracker.proofs.Heavy.{heavy}
 
 mark_least : (a b c x y z : ℕ) → mark a b c x y z ≤ 1
 mark_least a b c x y z = elim (cases_lt 0 (mark a b c x y z)) [

@@ -1,6 +1,6 @@
 -- A change of the policy alone keeps the good state: where no other key comes in, no region leaves but one that had a key, and no
 -- held region becomes free. So it is with an access, a decay, a clear, and with what makes room for an entry.
-use Rattle.std.proofs.Common.{arith, ◌≡◌, ◌+◌, ℕ, zero, suc, Bool, true, false, List, [], ◌∷◌, ◌++◌, sym, subst, ◌∙◌, ap, inl, inr, refl, length, Option, Some, None}
+use Rattle.std.proofs.Common.{append-nil, append_assoc, arith, ◌≡◌, ◌+◌, ℕ, zero, suc, Bool, true, false, List, [], ◌∷◌, ◌++◌, sym, subst, ◌∙◌, ap, inl, inr, refl, length, Option, Some, None}
 use Rattle.std.specs.Prelude.{◌==◌, ◌||◌, ◌&&◌, nat_lt, not, ◌⊎◌, slice_get, if◌then◌else◌}
 use Rattle.std.proofs.lemmas.Bool.{cases_eq, cases_Bool, false≢true, or_cases}
 use Rattle.std.proofs.lemmas.List.{length-set}
@@ -93,21 +93,13 @@ pub record Settled (rs : List ℕ) (p q : PolicyView) : Type 0 where
   pub free : q.free ≡ p.free ++ rs
   pub leaving : (j : ℕ) → is_in j q.leaving ≡ true → is_in j p.leaving ≡ true
 
-append_nil : (xs : List ℕ) → xs ++ [] ≡ xs
-append_nil [] = refl
-append_nil (x ∷ xs) = ap (λ (l : List ℕ). x ∷ l) (append_nil xs)
-
-append_one : (xs : List ℕ) (y : ℕ) (ys : List ℕ) → (xs ++ y ∷ []) ++ ys ≡ xs ++ y ∷ ys
-append_one [] y ys = refl
-append_one (x ∷ xs) y ys = ap (λ (l : List ℕ). x ∷ l) (append_one xs y ys)
-
 pub settled_all : (rs : List ℕ) (p : PolicyView) → Settled rs p (settle_all rs p)
-settled_all [] p = record { tags = refl; lists = refl; delta = refl; free = sym (append_nil p.free); leaving = λ j e. e }
+settled_all [] p = record { tags = refl; lists = refl; delta = refl; free = sym (append-nil p.free); leaving = λ j e. e }
 settled_all (r ∷ rs) p = let k = settled_all rs (settle r p) in record {
   tags = k.tags;
   lists = k.lists;
   delta = k.delta;
-  free = k.free ∙ append_one p.free r rs;
+  free = k.free ∙ append_assoc p.free (r ∷ []) rs;
   leaving = λ j e. kept_in (λ m. not (m == r)) j p.leaving (k.leaving j e);
 }
 

@@ -1,6 +1,7 @@
 //! A cache of regions, used by one actor at a time.
 
-ghost use Rattle.std.specs.Prelude.{◌≡◌, ◌<◌, ◌≤◌, ◌+◌, ◌-◌, Some, None, ℕ, IfOk, IfSome, IsSome, IsTrue, true, OnOk, OnErr, length};
+ghost use Rattle.std.specs.Prelude.{◌≡◌, ◌<◌, ◌≤◌, ◌+◌, ◌-◌, Some, None, ℕ, IfOk, IfSome, IsSome, IsTrue};
+ghost use Rattle.std.specs.Prelude.{true, OnOk, OnErr, length};
 ghost use Rattle.std.specs.List.{All, list_all};
 ghost use Rattle.region_ranges.specs.Keys.{IsConfig, IsKey, tag_of};
 ghost use Rattle.freq_lists.specs.Lists.{head};
@@ -11,9 +12,14 @@ ghost use Rattle.blob_parts.specs.Content.{content};
 ghost use Rattle.region_cell.specs.Cells.{len_of};
 ghost use Rattle.region_cell.specs.declared.taken.Taken.TheVariants as taken;
 ghost use Rattle.cache_door.specs.declared.answers.Glance.TheVariants as glance;
-ghost use Rattle.cache_door.specs.Machine.{enter, fail, leave, look, age, clear, unmount, hold_at, is_gone, enter_at, entered, room_by, hold, SamePresent};
-ghost use Rattle.cache_door.specs.Doors.{Works, no_work, entry_work, take_work, glance_work, store_work, FitsGap, IsWant, HasLength, IsEntry, failed_hold, stored_hold, nothing, CopyOrFault, taking, storing, AsHeld, AreHeld, AreStored, FrameFails};
-ghost use Rattle.cache_door.specs.Cores.{state_of, held_by, door_of, CopiesWant, view_at, all_tell, all_steady, all_faults, first_state, tally_of, with_spare, assigned, Unentered, IsKept, Later};
+ghost use Rattle.cache_door.specs.Machine.{enter, fail, leave, look, age, clear, unmount, hold_at, is_gone};
+ghost use Rattle.cache_door.specs.Machine.{enter_at, entered, room_by, hold, SamePresent};
+ghost use Rattle.cache_door.specs.Doors.{Works, no_work, entry_work, take_work, glance_work, store_work, FitsGap};
+ghost use Rattle.cache_door.specs.Doors.{IsWant, HasLength, IsEntry, failed_hold, stored_hold, nothing, CopyOrFault};
+ghost use Rattle.cache_door.specs.Doors.{taking, storing, AsHeld, AreHeld, AreStored, FrameFails};
+ghost use Rattle.cache_door.specs.Cores.{state_of, held_by, door_of, CopiesWant, view_at, all_tell, all_steady};
+ghost use Rattle.cache_door.specs.Cores.{all_faults, first_state, tally_of, with_spare, assigned, Unentered, IsKept};
+ghost use Rattle.cache_door.specs.Cores.{Later};
 
 use crate::answers::{Entered, Glance, Want};
 use crate::cells::cells_over;

@@ -5,7 +5,11 @@ ghost use Rattle.blob_parts.specs.Content.{content};
 ghost use Rattle.region_cell.specs.declared.taken.Taken.TheVariants as taken;
 ghost use Rattle.cache_door.specs.declared.answers.Glance.TheVariants as glance;
 ghost use Rattle.cache_door.specs.Machine.{age, clear, unmount};
-ghost use Rattle.cache_door.specs.Doors.{DoorView, DoorLater, Agrees, nothing, entry_hold, stored_hold, failed_hold, Works, no_work, entry_work, take_work, glance_work, store_work, FitsGap, IsWant, HasLength, IsEntry, SameState, with_mount, Becomes, Answers, AnswersCopy, entry, entry_answer, taking, looking, storing, failing, leaving, AsHeld, AsWanted, AreHeld, AreStored, FrameFails, LacksMemory};
+ghost use Rattle.cache_door.specs.Doors.{DoorView, DoorLater, Agrees, nothing, entry_hold, stored_hold, failed_hold};
+ghost use Rattle.cache_door.specs.Doors.{Works, no_work, entry_work, take_work, glance_work, store_work, FitsGap};
+ghost use Rattle.cache_door.specs.Doors.{IsWant, HasLength, IsEntry, SameState, with_mount, Becomes, Answers};
+ghost use Rattle.cache_door.specs.Doors.{AnswersCopy, entry, entry_answer, taking, looking, storing, failing, leaving};
+ghost use Rattle.cache_door.specs.Doors.{AsHeld, AsWanted, AreHeld, AreStored, FrameFails, LacksMemory};
 
 use crate::answers::{Entered, Glance, Want};
 use blob_parts::Piece;

@@ -1,7 +1,10 @@
-ghost use Rattle.std.specs.Prelude.{◌≡◌, ◌≢◌, ◌<◌, ◌≤◌, ◌+◌, ◌==◌, ◌++◌, ℕ, IfOk, IfSome, IfNone, IsSome, Some, None, length, slice_get, slice_index, if◌then◌else◌};
+ghost use Rattle.std.specs.Prelude.{◌≡◌, ◌≢◌, ◌<◌, ◌≤◌, ◌+◌, ◌==◌, ◌++◌, ℕ, IfOk, IfSome, IfNone, IsSome};
+ghost use Rattle.std.specs.Prelude.{Some, None};
+ghost use Rattle.std.specs.Prelude.{length, slice_get, slice_index, if◌then◌else◌};
 ghost use Rattle.region_ranges.specs.Keys.{IsKey, IsConfig, tag_of};
 ghost use Rattle.freq_lists.specs.Lists.{head, times, times_in};
-ghost use Rattle.cache_policy.specs.Policy.{PolicyView, new_policy, find, tag_at, mapped_len, is_of, regions_from, unmap, leave, settle, clear};
+ghost use Rattle.cache_policy.specs.Policy.{PolicyView, new_policy, find, tag_at, mapped_len, is_of};
+ghost use Rattle.cache_policy.specs.Policy.{regions_from, unmap, leave, settle, clear};
 ghost use Rattle.cache_policy.specs.Ageing.{map_front, touch, decay, candidates, next_candidate};
 ghost use Rattle.cache_policy.specs.Kept.{IsGood};
 

@@ -12,7 +12,8 @@ use Rattle.cache_reader.specs.Bounds.{Bounded, Worked}
 use Rattle.cache_reader.specs.Parts.{ReadSetting}
 use Rattle.cache_reader.specs.Going.{Moment, Goes}
 use Rattle.cache_reader.specs.Filling.{Partly, Whole, PartGoes, given}
-use Rattle.cache_reader.proofs.Joins.{goes_more, goes_none, counted_more, counted_none, took_none, took_both, bounded_more, rose_then}
+use Rattle.blob_parts.specs.Reading.{took_both}
+use Rattle.cache_reader.proofs.Joins.{goes_more, goes_none, counted_more, counted_none, took_none, bounded_more, rose_then}
 use Rattle.std.proofs.lemmas.List.{drop-drop, take-take, drop-take}
 use Rattle.blob_parts.specs.Content.{slice_of}
 use Rattle.cache_door.specs.Doors.{Works, turned_away_once}

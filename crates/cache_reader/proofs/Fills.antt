@@ -15,7 +15,8 @@ use Rattle.cache_reader.specs.Parts.{ReadSetting}
 use Rattle.cache_reader.specs.Parts as parts
 use Rattle.cache_reader.specs.Going.{Moment, Goes}
 use Rattle.cache_reader.specs.Filling.{Filling, Partly, Whole}
-use Rattle.cache_reader.proofs.Joins.{goes_more, goes_none, counted_more, counted_none, took_none, took_both}
+use Rattle.blob_parts.specs.Reading.{took_both}
+use Rattle.cache_reader.proofs.Joins.{goes_more, goes_none, counted_more, counted_none, took_none}
 
 -- a file has as many places as bytes
 places_over : (blobs : Listing) (f : FileRecord) (ks : List ℕ) → length (flat_map (part_places blobs f) ks) ≡ length (concat (map (part_bytes blobs f) ks))

@@ -1,5 +1,5 @@
 -- What an entry leaves of the policy: the key is mapped to the answer's region, and an access at the same time changes nothing.
-use Rattle.std.proofs.Common.{arith, ◌≡◌, ◌<◌, ◌+◌, ◌-◌, ◌*◌, ℕ, zero, suc, Bool, true, false, List, [], ◌∷◌, ◌++◌, sym, subst, ◌∙◌, ap, inl, inr, refl, length, set, get_or, Option, Some, None}
+use Rattle.std.proofs.Common.{append-nil, append_assoc, arith, ◌≡◌, ◌<◌, ◌+◌, ◌-◌, ◌*◌, ℕ, zero, suc, Bool, true, false, List, [], ◌∷◌, ◌++◌, sym, subst, ◌∙◌, ap, inl, inr, refl, length, set, get_or, Option, Some, None}
 use Rattle.std.specs.Prelude.{◌==◌, ◌&&◌, nat_lt, nat_le, not, slice_index, IfSome, option_map}
 use Rattle.std.specs.List.{filter, position_from}
 use Rattle.std.proofs.lemmas.Bool.{cases_Bool, cases_lt, false≢true, or_cases}
@@ -54,22 +54,14 @@ record Settled (rs : List ℕ) (p q : PolicyView) : Type 0 where
   delta : q.min_delta ≡ p.min_delta
   free : q.free ≡ p.free ++ rs
 
-append_nil : (xs : List ℕ) → xs ++ [] ≡ xs
-append_nil [] = refl
-append_nil (x ∷ xs) = ap (λ (l : List ℕ). x ∷ l) (append_nil xs)
-
-append_one : (xs : List ℕ) (y : ℕ) (ys : List ℕ) → (xs ++ y ∷ []) ++ ys ≡ xs ++ y ∷ ys
-append_one [] y ys = refl
-append_one (x ∷ xs) y ys = ap (λ (l : List ℕ). x ∷ l) (append_one xs y ys)
-
 settled_all : (rs : List ℕ) (p : PolicyView) → Settled rs p (settle_all rs p)
-settled_all [] p = record { tags = refl; lists = refl; last_accesses = refl; delta = refl; free = sym (append_nil p.free) }
+settled_all [] p = record { tags = refl; lists = refl; last_accesses = refl; delta = refl; free = sym (append-nil p.free) }
 settled_all (r ∷ rs) p = let k = settled_all rs (settle r p) in record {
   tags = k.tags;
   lists = k.lists;
   last_accesses = k.last_accesses;
   delta = k.delta;
-  free = k.free ∙ append_one p.free r rs;
+  free = k.free ∙ append_assoc p.free (r ∷ []) rs;
 }
 
 module _ (holds : List (Option Hold)) (p : PolicyView) (good : policy.IsGood p) where

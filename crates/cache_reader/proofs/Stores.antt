@@ -22,7 +22,7 @@ use Rattle.cache_door.specs.Takes.{after}
 use Rattle.cache_reader.specs.Parts.{ReadSetting, bytes_of}
 use Rattle.cache_reader.specs.Stored.{rest_stored, gap_stored, StoredTo}
 use Rattle.cache_reader.proofs.Fills.{slice_length, slice_joined}
-use Rattle.cache_door.proofs.Found.{heavy}
+use Rattle.sparse_tracker.proofs.Heavy.{heavy}
 use Rattle.cache_door.proofs.OneOwner.{held_inside as actor_inside, some_none as none_some}
 use Rattle.cache_door.proofs.Places.{is_same}
 use Rattle.freq_lists.proofs.Counts.{same_is}

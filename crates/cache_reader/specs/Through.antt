@@ -8,6 +8,7 @@ use Rattle.std.proofs.Math.Nat.{le_refl, le_trans}
 use Rattle.byte_text.specs.Counts.{Rose}
 use Rattle.blob_parts.specs.Content.{spread, spread_one}
 use Rattle.blob_parts.specs.Takes.{Took}
+use Rattle.blob_parts.specs.Reading.{took_both}
 use Rattle.cache_door.specs.declared.work.Work.{Work}
 use Rattle.cache_reader.specs.declared.report.Report.{Report}
 use Rattle.cache_reader.specs.Reports.{joined, no_bytes, Grew, Counted}
@@ -73,16 +74,6 @@ counted_more a b d m n h k = record {
 pub took_none : (t : Option (List (ℕ × ℕ × ℕ))) → Took t t []
 took_none None = refl
 took_none (Some before) = ([], ap Some (sym (append-nil before)), refl)
-
--- one after another
-pub took_both : (t u v : Option (List (ℕ × ℕ × ℕ))) (first then : List (ℕ × ℕ)) → Took t u first → Took u v then → Took t v (first ++ then)
-took_both None u v first then a b = rw a at b
-took_both (Some before) u v first then a b =
-    let own = rw a.1 at b in (
-      a.0 ++ own.0,
-      own.1 ∙ ap Some (append_assoc before a.0 own.0),
-      flat_map-append spread_one a.0 own.0 ∙ ap (λ r. r ++ spread own.0) a.2 ∙ ap (λ r. first ++ r) own.2,
-    )
 
 pub bounded_none : (range : ℕ) (w : Work) → Bounded range w w 0
 bounded_none range w s t = (omega arith, omega arith)

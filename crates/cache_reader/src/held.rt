@@ -1,5 +1,6 @@
 // A part whose region is held: filled, copied, and given back; or read past the cache.
-ghost use Rattle.std.specs.Prelude.{◌≡◌, ◌≢◌, ◌<◌, ◌≤◌, ◌+◌, ◌-◌, ◌*◌, ℕ, true, false, Some, Ok, Err, IsTrue, OnOk, IsErr, IsErrOf, IfSome, length};
+ghost use Rattle.std.specs.Prelude.{◌≡◌, ◌≢◌, ◌<◌, ◌≤◌, ◌+◌, ◌-◌, ◌*◌, ℕ, true, false, Some, Ok, Err, IsTrue};
+ghost use Rattle.std.specs.Prelude.{OnOk, IsErr, IsErrOf, IfSome, length};
 ghost use Rattle.region_cell.specs.Cells.{region_bytes};
 ghost use Rattle.byte_text.specs.Counts.{Rose};
 ghost use Rattle.blob_parts.specs.Content.{content, content_places, slice_of};

@@ -127,7 +127,8 @@ impl<'a, A: Archive, D: CacheDoor<A>, S: BlobSource<A>> Reader<'a, A, D, S> {
         requires inside { at + length out.old ≤ (⟦<Reader<'a, A, D, S> as FileBytes>⟧.view self.old).lengths file }
         ensures bytes { let files = ⟦<Reader<'a, A, D, S> as FileBytes>⟧.view self.old in
             IsTrue files.tells → OnOk result (out.new ≡ slice_of at (length out.old) (files.bytes file)) }
-        ensures goes { ⟦<Reader<'a, A, D, S> as FileBytes>⟧.goes_by (one_read file at (length out.old)) self.old self.new }
+        ensures goes { ⟦<Reader<'a, A, D, S> as FileBytes>⟧.goes_by
+            (one_read file at (length out.old)) self.old self.new }
         ensures cause { let view = ⟦<Reader<'a, A, D, S> as FileBytes>⟧.view in
             HasReadCause (view self.old) (view self.new) (refusal result) }
         ensures report { let seen = ⟦<Reader<'a, A, D, S> as Seen>⟧.seen in

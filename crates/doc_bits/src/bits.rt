@@ -1,5 +1,6 @@
 // A set of documents, one bit each.
-ghost use Rattle.std.specs.Prelude.{◌≡◌, ℕ, ◌<◌, ◌&&◌, ◌||◌, List, Bool, true, false, Some, length, replicate, All, IfOk, slice_get, slice_set};
+ghost use Rattle.std.specs.Prelude.{◌≡◌, ℕ, ◌<◌, ◌&&◌, ◌||◌, List, Bool, true, false, Some, length};
+ghost use Rattle.std.specs.Prelude.{replicate, All, IfOk, slice_get, slice_set};
 ghost use Rattle.std.specs.List.Sorted.{IsStrictlyIncreasing};
 ghost use Rattle.doc_bits.specs.Places.{zip_with, and_not, either_not_both, places_of};
 

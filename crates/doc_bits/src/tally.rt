@@ -1,5 +1,6 @@
 // Counts of how many sets hold each document.
-ghost use Rattle.std.specs.Prelude.{◌≡◌, ℕ, ◌+◌, ◌<◌, ◌≤◌, ◌^◌, ◌&&◌, ◌||◌, true, false, if◌then◌else◌, length, map, replicate, nat_le, slice_index_or, All, IfOk};
+ghost use Rattle.std.specs.Prelude.{◌≡◌, ℕ, ◌+◌, ◌<◌, ◌≤◌, ◌^◌, ◌&&◌, ◌||◌, true, false, if◌then◌else◌};
+ghost use Rattle.std.specs.Prelude.{length, map, replicate, nat_le, slice_index_or, All, IfOk};
 ghost use Rattle.doc_bits.specs.Places.{zip_with};
 ghost use Rattle.doc_bits.specs.Counts.{Counted, counted};
 ghost use Rattle.doc_bits.specs.Planes.{number, digits_at};

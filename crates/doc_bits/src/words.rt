@@ -1,6 +1,7 @@
 // What is done word by word, 64 documents a step. A bit past the last document is never set, so that words can be
 // combined and counted whole.
-ghost use Rattle.std.specs.Prelude.{◌≡◌, ℕ, ◌+◌, ◌-◌, ◌*◌, ◌/◌, ◌<◌, ◌≤◌, ◌^◌, false, true, length, slice_index, sum_by, count_ones};
+ghost use Rattle.std.specs.Prelude.{◌≡◌, ℕ, ◌+◌, ◌-◌, ◌*◌, ◌/◌, ◌<◌, ◌≤◌, ◌^◌, false, true, length};
+ghost use Rattle.std.specs.Prelude.{slice_index, sum_by, count_ones};
 ghost use Rattle.std.specs.Simd.Lanes.{sum_l};
 ghost use Rattle.doc_bits.specs.Words.{holds_at, word_of, places_of_words};
 

@@ -3,20 +3,13 @@ use Rattle.std.proofs.Common.{arith, ◌≡◌, ◌<◌, ◌≤◌, ◌+◌, ℕ
 use Rattle.std.specs.Prelude.{◌==◌}
 use Rattle.std.proofs.lemmas.Bool.{cases_eq, cases_Bool}
 use Rattle.freq_lists.specs.Lists.{without, times_in}
-use Rattle.freq_lists.proofs.Counts.{same_is}
+use Rattle.freq_lists.proofs.Counts.{same_is, times_without}
 
 times_less : (m n : ℕ) (l : List ℕ) → times_in m (without n l) ≤ times_in m l
 times_less m n [] = omega arith
 times_less m n (x ∷ l) = elim (cases_Bool (x == n)) [
   | inl t ↦ rw t (omega (arith, times_less m n l))
   | inr t ↦ rw t (omega (arith, times_less m n l))
-]
-
-times_gone : (n : ℕ) (l : List ℕ) → times_in n (without n l) ≡ 0
-times_gone n [] = refl
-times_gone n (x ∷ l) = elim (cases_Bool (x == n)) [
-  | inl t ↦ rw t (times_gone n l)
-  | inr t ↦ rw (t, t, times_gone n l) refl
 ]
 
 length_less : (n : ℕ) (l : List ℕ) → length l ≡ length (without n l) + times_in n l
@@ -35,6 +28,6 @@ room (suc bound) (x ∷ l) once within =
   where
     below : (n : ℕ) → 0 < times_in n (without bound (x ∷ l)) → n < bound
     below n h = elim (cases_eq n bound) [
-      | inl e ↦ absurd (let g = rw e at h in omega (arith, g, times_gone bound (x ∷ l)))
+      | inl e ↦ absurd (let g = rw e at h in omega (arith, g, times_without bound (x ∷ l)))
       | inr d ↦ let w = within n (omega (arith, h, times_less n bound (x ∷ l))) in omega (arith, w, d)
     ]

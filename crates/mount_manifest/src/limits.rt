@@ -2,7 +2,10 @@
 ghost use Rattle.std.specs.Prelude.{◌≡◌, ◌≤◌, [], length, IfSome, ◌<◌};
 ghost use Rattle.std.specs.List.{list_any};
 ghost use Rattle.mount_manifest.specs.Steps.{Gives, GivesList, at_most, each};
-ghost use Rattle.mount_manifest.specs.Manifest.{not_zero, sum_with, file_limits, all_file_limits, segment_limits, all_segment_limits, no_doubles, same_file, physical_name_of, same_segment, segment_name_of, file_number, file_of, optional_file, placed};
+ghost use Rattle.mount_manifest.specs.Manifest.{not_zero, sum_with, file_limits, all_file_limits, segment_limits};
+ghost use Rattle.mount_manifest.specs.Manifest.{all_segment_limits, no_doubles, same_file, physical_name_of};
+ghost use Rattle.mount_manifest.specs.Manifest.{same_segment, segment_name_of, file_number, file_of, optional_file};
+ghost use Rattle.mount_manifest.specs.Manifest.{placed};
 ghost use Rattle.mount_manifest.specs.Sound.{FewDocs};
 
 use crate::record::{FileRecord, NamedSegment, Segment};

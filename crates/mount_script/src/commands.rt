@@ -1,6 +1,7 @@
 // Reading a line: one function a command, over the words behind its first.
 ghost use Rattle.mount_script.specs.Words.{texts};
-ghost use Rattle.mount_script.specs.Commands.{IsOf, mount_line, named_line, bare_line, search_line, fetch_line, read_line, command_from, command_of};
+ghost use Rattle.mount_script.specs.Commands.{IsOf, mount_line, named_line, bare_line, search_line};
+ghost use Rattle.mount_script.specs.Commands.{fetch_line, read_line, command_from, command_of};
 ghost use Rattle.mount_script.specs.declared.command.Command.TheVariants.{Unmount, Clear, Decay, Stats};
 
 use crate::Command;

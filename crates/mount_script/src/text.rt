@@ -1,7 +1,8 @@
 // The text of each reply.
 ghost use Rattle.std.specs.Prelude.{◌≡◌, ◌++◌, IfOk, OnOk, decimal, codes, map};
 ghost use Rattle.std.specs.List.{flat_map};
-ghost use Rattle.mount_script.specs.Replies.{text_of, mounted_text, hit_text, hits_text, field_text, fields_text, bytes_text, counter_text, counter_of};
+ghost use Rattle.mount_script.specs.Replies.{text_of, mounted_text, hit_text, hits_text, field_text};
+ghost use Rattle.mount_script.specs.Replies.{fields_text, bytes_text, counter_text, counter_of};
 
 use crate::Reply;
 use base64::engine::general_purpose::STANDARD;

@@ -5,7 +5,7 @@ use Rattle.std.specs.Str.{is_utf8}
 use Rattle.std.proofs.lemmas.Bool.{false≢true}
 use Rattle.std.proofs.lemmas.Str.{IsUtf8-from_is_utf8}
 use Rattle.std.proofs.lemmas.Option.{slice_get-get_or}
-use Rattle.query_lang.proofs.ListLemmas.{drop_get}
+use Rattle.byte_text.proofs.Lists.{drop_get}
 use Rattle.serde_json.specs.Data.{array, Items, no_items, item, Members, put}
 use Rattle.serde_json.specs.View.{view, items_view}
 use Rattle.serde_json.specs.declared.value.Value.{Value}

@@ -1,5 +1,4 @@
 mod Rows
-pub mod ListLemmas
 pub mod Only
 pub mod Forms
 pub mod Printed

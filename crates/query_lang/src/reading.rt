@@ -3,7 +3,8 @@ ghost use Rattle.std.specs.Prelude.{◌≡◌, map, option_map, IfOk, IfSome, Is
 ghost use Rattle.serde_json.specs.View.{view, items_view};
 ghost use Rattle.mount_manifest.specs.Json.{json_of};
 ghost use Rattle.query_lang.specs.Trees.{match_all, term, depth, deepest, tree_of, trees_of, is_text, IsTextOf, AreTexts};
-ghost use Rattle.query_lang.specs.Reading.{query, IsRead, IsJson, empty_form, value_text, term_form, form, bool_form, forms, first_of, list_form, one_tree, only};
+ghost use Rattle.query_lang.specs.Reading.{query, IsRead, IsJson, empty_form, value_text, term_form, form, bool_form};
+ghost use Rattle.query_lang.specs.Reading.{forms, first_of, list_form, one_tree, only};
 
 use crate::members::BoolParts;
 use crate::{Clauses, Query, QueryError};

@@ -1,7 +1,11 @@
-ghost use Rattle.std.specs.Prelude.{◌≡◌, ◌<◌, ◌≤◌, ◌-◌, ℕ, max, IsTrue, OnOk, OnErr, IfOk, IfSome, IfNone, IsOk, IsSome, is_some, length, []};
+ghost use Rattle.std.specs.Prelude.{◌≡◌, ◌<◌, ◌≤◌, ◌-◌, ℕ, max, IsTrue, OnOk, OnErr, IfOk, IfSome, IfNone};
+ghost use Rattle.std.specs.Prelude.{IsOk, IsSome, is_some, length, []};
 ghost use Rattle.region_ranges.specs.Keys.{IsConfig, IsKey, tag_of, key_of, free_tag};
 ghost use Rattle.blob_parts.specs.Content.{content};
-ghost use Rattle.region_cell.specs.Cells.{new_cell, len_of, assign, claimed, new_claim, fail, leave, are_present, with_region, ticket_in, gap_in, LiesInRange, IsLength, FitsCell, FrameOnly, StoreOnly, Faulted, CopyAnswer, CellBytes, TicketBytes, TicketContent, RangeContent, Stored, Unstored, NeverOpen, IsGood};
+ghost use Rattle.region_cell.specs.Cells.{new_cell, len_of, assign, claimed, new_claim, fail, leave, are_present};
+ghost use Rattle.region_cell.specs.Cells.{with_region, ticket_in, gap_in, LiesInRange, IsLength, FitsCell, FrameOnly};
+ghost use Rattle.region_cell.specs.Cells.{StoreOnly, Faulted, CopyAnswer, CellBytes, TicketBytes, TicketContent};
+ghost use Rattle.region_cell.specs.Cells.{RangeContent, Stored, Unstored, NeverOpen, IsGood};
 
 use crate::Taken;
 use blob_parts::Piece;

@@ -1,5 +1,6 @@
 //! A set of places, kept as a list of sorted ranges.
-ghost use Rattle.std.specs.Prelude.{◌≡◌, ◌<◌, ◌≤◌, ◌-◌, ◌&&◌, ◌||◌, ℕ, [], not, true, false, OnOk, OnErr, IsOk, IfSome, IfNone, Some, None, max, min, length, slice_index_or};
+ghost use Rattle.std.specs.Prelude.{◌≡◌, ◌<◌, ◌≤◌, ◌-◌, ◌&&◌, ◌||◌, ℕ, [], not, true, false, OnOk, OnErr, IsOk, IfSome};
+ghost use Rattle.std.specs.Prelude.{IfNone, Some, None, max, min, length, slice_index_or};
 ghost use Rattle.region_ranges.specs.Ranges.{RangesView, IsSortedFrom, IsFirstRun, Covers, Misses, first_run, free_below, inside, has};
 
 use crate::edit::{subtract, unite};

@@ -3,13 +3,10 @@ use Rattle.std.proofs.Common.{arith, ◌≡◌, ℕ, ◌+◌, ◌<◌, ◌≤◌
 use Rattle.std.specs.Prelude.{codes}
 use Rattle.std.proofs.lemmas.List.{drop_more, drop_all}
 use Rattle.std.proofs.lemmas.Option.{slice_get_within, get_or_from_slice_get}
+use Rattle.byte_text.proofs.Lists.{drop_get}
 use Rattle.simpletext_postings.specs.Rows.{are_rows}
 use Rattle.simpletext_postings.specs.Written.{rows_lines, written}
 use Rattle.simpletext_postings.specs.declared.rows.Row.{Row}
-
-next_item : {X : Type 0} (xs : List X) (i : ℕ) (x : X) → slice_get xs i ≡ Some x → drop i xs ≡ x ∷ drop (i + 1) xs
-next_item xs i x h =
-    drop_more xs i x (slice_get_within xs i x h) ∙ ap (λ y. y ∷ drop (i + 1) xs) (get_or_from_slice_get xs i x x h)
 
 -- the piece of the next item stands behind the text now, and the pieces of the others are still to come
 pub one_more : {X : Type 0} (pieces later : List X → List ℕ) (piece : List ℕ) (xs : List X) (i : ℕ) (x : X) (text now whole : List ℕ)
@@ -18,7 +15,7 @@ pub one_more : {X : Type 0} (pieces later : List X → List ℕ) (piece : List �
 one_more pieces later piece xs i x text now whole cons item before more =
     ap (λ (t : List ℕ). t ++ later (drop (i + 1) xs)) more
     ∙ append_assoc text piece (later (drop (i + 1) xs))
-    ∙ ap (λ (t : List ℕ). text ++ t) (sym (ap pieces (next_item xs i x item) ∙ cons (drop (i + 1) xs)))
+    ∙ ap (λ (t : List ℕ). text ++ t) (sym (ap pieces (drop_get xs i x item) ∙ cons (drop (i + 1) xs)))
     ∙ before
 
 -- behind the last row

@@ -7,7 +7,8 @@ ghost use Rattle.text_lines.specs.Errors.{text_refusal};
 ghost use Rattle.text_lines.specs.Readers.{ReadsPieces};
 ghost use Rattle.simpletext_postings.specs.Postings.{postings};
 ghost use Rattle.simpletext_postings.specs.Rows.{RiseWithin};
-ghost use Rattle.simpletext_postings.specs.Terms.{TermTable, FitsText, Opens, IsOfBytes, ReadsEntries, entry_of, entry_places, postings_with, posting_doc};
+ghost use Rattle.simpletext_postings.specs.Terms.{TermTable, FitsText, Opens, IsOfBytes, ReadsEntries};
+ghost use Rattle.simpletext_postings.specs.Terms.{entry_of, entry_places, postings_with, posting_doc};
 ghost use Rattle.simpletext_postings.specs.declared.rows.Row.{Row};
 
 use crate::Posting;

@@ -1,5 +1,6 @@
 // The places of the terms in a postings text.
-ghost use Rattle.std.specs.Prelude.{◌≡◌, ◌==◌, ◌&&◌, ◌+◌, ◌++◌, ◌<◌, ◌≤◌, true, false, [], IfNone, IfOk, IfSome, OnOk, length, map, nat_lt, get_or, option_map};
+ghost use Rattle.std.specs.Prelude.{◌≡◌, ◌==◌, ◌&&◌, ◌+◌, ◌++◌, ◌<◌, ◌≤◌, true, false, [], IfNone, IfOk};
+ghost use Rattle.std.specs.Prelude.{IfSome, OnOk, length, map, nat_lt, get_or, option_map};
 ghost use Rattle.std.specs.List.{list_all, list_any};
 ghost use Rattle.std.specs.Str.{bytes_eq};
 ghost use Rattle.simpletext_postings.specs.Places.{ArePlaces, count_under, is_under, name_of, named, numbered, rise, lies_in};

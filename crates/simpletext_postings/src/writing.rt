@@ -2,7 +2,9 @@
 ghost use Rattle.std.specs.Prelude.{◌≡◌, ◌++◌, Ok, IfOk, OnOk};
 ghost use Rattle.std.specs.Option.{option_copied};
 ghost use Rattle.simpletext_postings.specs.Postings.{postings};
-ghost use Rattle.simpletext_postings.specs.Written.{name_line, number_line, is_in_field, is_in_term, field_lines, term_lines, frequency_line, position_line, position_lines, row_lines, written};
+ghost use Rattle.simpletext_postings.specs.Written.{name_line, number_line, is_in_field, is_in_term, field_lines};
+ghost use Rattle.simpletext_postings.specs.Written.{term_lines, frequency_line, position_line, position_lines};
+ghost use Rattle.simpletext_postings.specs.Written.{row_lines, written};
 
 use crate::{Positions, Row, Rows};
 use byte_text::Text;

@@ -6,7 +6,8 @@ ghost use Rattle.text_lines.specs.Readers.{ReadsPieces};
 ghost use Rattle.text_lines.specs.Errors.{text_refusal};
 ghost use Rattle.simpletext_stored.specs.Stored.{stored, stored_lines, stored_places};
 ghost use Rattle.simpletext_stored.specs.Steps.{IsIndexed};
-ghost use Rattle.simpletext_stored.specs.Answers.{FitsStored, Opens, Breaks, HasDocument, IsNotBad, KnowsDocs, lines_of_document, stored_refusal};
+ghost use Rattle.simpletext_stored.specs.Answers.{FitsStored, Opens, Breaks, HasDocument, IsNotBad};
+ghost use Rattle.simpletext_stored.specs.Answers.{KnowsDocs, lines_of_document, stored_refusal};
 
 use crate::document::read_document;
 use crate::reading::read_lines;

@@ -1,6 +1,7 @@
 // What the lines of a text of stored fields so far say of the next one.
 ghost use Rattle.std.specs.Prelude.{◌≡◌, ℕ, List, [], Bool, true, false, IfOk, length};
-ghost use Rattle.simpletext_stored.specs.Stored.{last, doc_count, is_allowed, is_start, is_between, is_field, is_name, is_type, is_end, is_checksum_line};
+ghost use Rattle.simpletext_stored.specs.Stored.{last, doc_count, is_allowed, is_start, is_between, is_field};
+ghost use Rattle.simpletext_stored.specs.Stored.{is_name, is_type, is_end, is_checksum_line};
 ghost use Rattle.simpletext_stored.specs.Steps.{IsStateOf, Step, is_over};
 ghost use Rattle.simpletext_stored.specs.declared.form.Form.{Form};
 

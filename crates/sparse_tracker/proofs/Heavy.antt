@@ -28,7 +28,7 @@ at_one a b c x y z h = elim (cases_Bool (x == a)) [
 ]
 
 -- an entry that weighs something
-heavy : {X : Type 0} (f : X → ℕ) (xs : List X) → 0 < total f xs → (j : ℕ) × ((x : X) × (slice_get xs j ≡ Some x) × (0 < f x))
+pub heavy : {X : Type 0} (f : X → ℕ) (xs : List X) → 0 < total f xs → (j : ℕ) × ((x : X) × (slice_get xs j ≡ Some x) × (0 < f x))
 heavy f [] h = absurd (omega (arith, h))
 heavy f (x ∷ xs) h = elim (cases_lt 0 (f x)) [
   | inl l ↦ (0, (x, refl, l))
@@ -36,7 +36,7 @@ heavy f (x ∷ xs) h = elim (cases_lt 0 (f x)) [
 ]
 
 -- the first entry that passes a test, where one does, passes it and stands at some place
-first_is : {X : Type 0} (p : X → Bool) (xs : List X) (j : ℕ) (x : X) → slice_get xs j ≡ Some x → p x ≡ true → (i : ℕ) × ((y : X) × (find p xs ≡ Some y) × (slice_get xs i ≡ Some y) × (p y ≡ true))
+pub first_is : {X : Type 0} (p : X → Bool) (xs : List X) (j : ℕ) (x : X) → slice_get xs j ≡ Some x → p x ≡ true → (i : ℕ) × ((y : X) × (find p xs ≡ Some y) × (slice_get xs i ≡ Some y) × (p y ≡ true))
 first_is p [] j x e t = absurd (cc)
 first_is p (y ∷ ys) zero x e t = elim (cases_Bool (p y)) [
   | inl u ↦ (0, (y, rw u refl, refl, u))
@@ -48,7 +48,7 @@ first_is p (y ∷ ys) (suc j) x e t = elim (cases_Bool (p y)) [
 ]
 
 -- gaps are told by their numbers
-same_gap : (o p : OpenGap) → o.id ≡ p.id → o.upto ≡ p.upto → o.end ≡ p.end → o ≡ p
+pub same_gap : (o p : OpenGap) → o.id ≡ p.id → o.upto ≡ p.upto → o.end ≡ p.end → o ≡ p
 same_gap o p a b c =
     ap (λ (i : ℕ). let g : OpenGap = record { id = i; upto = o.upto; end = o.end } in g) a
     ∙ ap (λ (i : ℕ). let g : OpenGap = record { id = p.id; upto = i; end = o.end } in g) b

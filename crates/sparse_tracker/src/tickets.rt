@@ -1,6 +1,7 @@
 //! The tickets of a tracker. There are as many as wait at a time, so they are walked.
 
-ghost use Rattle.std.specs.Prelude.{◌≡◌, ◌<◌, ◌≤◌, ◌+◌, ℕ, length, ◌==◌, ◌++◌, ◌∷◌, [], IsSome, find, not, map, false, vec_len, vec_capacity};
+ghost use Rattle.std.specs.Prelude.{◌≡◌, ◌<◌, ◌≤◌, ◌+◌, ℕ, length, ◌==◌, ◌++◌, ◌∷◌, [], IsSome, find, not};
+ghost use Rattle.std.specs.Prelude.{map, false, vec_len, vec_capacity};
 ghost use Rattle.std.specs.List.{list_any, prefix_len};
 ghost use Rattle.sparse_tracker.specs.ByteStates.{least_unused, numbers, without_ticket};
 ghost use Rattle.sparse_tracker.specs.Kept.{AllDiffer, mark};

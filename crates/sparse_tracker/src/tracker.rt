@@ -1,9 +1,13 @@
 //! A tracker keeps which places are present or pending as one set of ranges, and the open gaps and tickets as short
 //! lists. So progress moves one number, a claim is one `add`, and a failure is one `remove`.
 
-ghost use Rattle.std.specs.Prelude.{◌≡◌, ◌<◌, ◌≤◌, ◌+◌, ◌-◌, ℕ, max, OnOk, OnErr, IfOk, IsOk, IfSome, IsSome, option_map, length, true, false, ◌||◌, ◌&&◌, not, ◌++◌, ◌∷◌, [], Some, vec_len, vec_capacity};
+ghost use Rattle.std.specs.Prelude.{◌≡◌, ◌<◌, ◌≤◌, ◌+◌, ◌-◌, ℕ, max, OnOk, OnErr, IfOk, IsOk, IfSome, IsSome};
+ghost use Rattle.std.specs.Prelude.{option_map, length, true, false, ◌||◌, ◌&&◌, not, ◌++◌, ◌∷◌, [], Some, vec_len};
+ghost use Rattle.std.specs.Prelude.{vec_capacity};
 ghost use Rattle.region_ranges.specs.Ranges.{inside, has, first_run, free_below};
-ghost use Rattle.sparse_tracker.specs.ByteStates.{TrackerView, new_tracker, absent_run, not_behind, wait_for_range, new_claim, has_all, wait_if_pending, pending_ticket, progress, complete, fail, leave, status, gap_of, ticket_of, least_unused, ids};
+ghost use Rattle.sparse_tracker.specs.ByteStates.{TrackerView, new_tracker, absent_run, not_behind, wait_for_range};
+ghost use Rattle.sparse_tracker.specs.ByteStates.{new_claim, has_all, wait_if_pending, pending_ticket, progress};
+ghost use Rattle.sparse_tracker.specs.ByteStates.{complete, fail, leave, status, gap_of, ticket_of, least_unused, ids};
 ghost use Rattle.sparse_tracker.specs.Kept.{AllDiffer, IsKept, any_free, in_gap};
 
 use crate::gaps::{OpenGap, gap_of, has_pending, move_gap, take_gap};

@@ -3,7 +3,9 @@ ghost use Rattle.std.specs.Prelude.{◌≡◌, ◌<◌, ◌≤◌, ◌+◌, ◌-
 ghost use Rattle.directory_input.specs.Files.{FilesView};
 ghost use Rattle.directory_input.specs.Windows.{FitsFile, moved_to};
 ghost use Rattle.directory_input.specs.Causes.{HasBytesCause, refusal};
-ghost use Rattle.text_lines.specs.Readers.{FitsBytes, ReadsPieces, ReadsLine, Places, Moved, Steps, Came, HasMore, IsOfBytes, rest, line_answer, line_of, line_refusal, bytes_ahead, piece_of, skip_of};
+ghost use Rattle.text_lines.specs.Readers.{FitsBytes, ReadsPieces, ReadsLine, Places, Moved, Steps, Came, HasMore};
+ghost use Rattle.text_lines.specs.Readers.{IsOfBytes, rest, line_answer, line_of, line_refusal, bytes_ahead, piece_of};
+ghost use Rattle.text_lines.specs.Readers.{skip_of};
 
 use crate::steps::{Step, take_near, take_step};
 use byte_text::Text;
