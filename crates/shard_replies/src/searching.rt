@@ -4,6 +4,7 @@ ghost use Rattle.directory_input.specs.Causes.{HasBytesCause, refusal};
 ghost use Rattle.directory_input.specs.Files.{GoesOn};
 ghost use Rattle.query_lang.specs.Trees.{tree_of};
 ghost use Rattle.shard_search.specs.Answers.{IsHitOf, pair_of};
+ghost use Rattle.shard_search.specs.Shelves.{ShelfFits, StillKept};
 ghost use Rattle.shard_replies.specs.Answers.{HasHits};
 ghost use Rattle.shard_replies.specs.ExpectedReplies.{shown, tree_reply, search_reply};
 ghost use Rattle.mount_script.specs.declared.reply.Reply.TheVariants as reply;
@@ -42,7 +43,8 @@ fn hits_reply(alloc: Global, shard: &Manifest, hits: &Hits) -> Result<Reply, All
 }
 
 /// The reply to a search for what a query asks: how many documents match, and the first `size` of them; or the first
-/// bad file. The shelf is one that belongs to this mount, and the bytes are those of the manifest's files.
+/// bad file. The shelf is one that belongs to this mount, and does so afterwards; it may then keep further
+/// dictionaries. The bytes are those of the manifest's files.
 pub fn query_reply<B: FileBytes>(
     alloc: Global,
     bytes: &mut B,
@@ -51,10 +53,13 @@ pub fn query_reply<B: FileBytes>(
     size: u32,
     query: &Query,
 ) -> Result<Reply, BytesError>
-    requires { length shard.now.files ≤ (B.view bytes.old).count }
+    requires files { length shard.now.files ≤ (B.view bytes.old).count }
+    requires shelf { ShelfFits (B.view bytes.old) shard.now.segments shelf.old }
     ensures reply { IsTrue (B.view bytes.old).tells
         → IfOk result (λ r. r ≡ tree_reply (B.view bytes.old).bytes shard.now size (tree_of query.now)) }
     ensures form { IfOk result HasHits }
+    ensures shelf { ShelfFits (B.view bytes.new) shard.now.segments shelf.new }
+    ensures kept { StillKept shelf.old shelf.new }
     ensures goes { GoesOn B.goes_by bytes.old bytes.new }
     ensures cause { HasBytesCause (B.view bytes.old) (B.view bytes.new) (refusal result) }
 {
@@ -74,10 +79,13 @@ pub fn search_reply<B: FileBytes>(
     size: u32,
     text: &[u8],
 ) -> Result<Reply, BytesError>
-    requires { length shard.now.files ≤ (B.view bytes.old).count }
+    requires files { length shard.now.files ≤ (B.view bytes.old).count }
+    requires shelf { ShelfFits (B.view bytes.old) shard.now.segments shelf.old }
     ensures reply { IsTrue (B.view bytes.old).tells
         → IfOk result (λ r. r ≡ search_reply (B.view bytes.old).bytes shard.now size text.now) }
     ensures form { IfOk result HasHits }
+    ensures shelf { ShelfFits (B.view bytes.new) shard.now.segments shelf.new }
+    ensures kept { StillKept shelf.old shelf.new }
     ensures goes { GoesOn B.goes_by bytes.old bytes.new }
     ensures cause { HasBytesCause (B.view bytes.old) (B.view bytes.new) (refusal result) }
 {

@@ -19,7 +19,9 @@ use Rattle.shard_search.specs.Answers.{RefusesBy, NamesFile, refused_in}
 use Rattle.shard_search.specs.Answers as answers
 use Rattle.shard_search.specs.Sets.{each_of}
 use Rattle.shard_search.specs.declared.error.SearchError.{SearchError}
-use Rattle.shard_search.proofs.SetLemmas.{places_each, places_and, length-zip}
+use Rattle.shard_search.specs.declared.error.SearchError.TheVariants as refusal
+use Rattle.shard_search.proofs.SetLemmas.{places_each, places_and}
+use Rattle.doc_bits.proofs.Lists.{length-zip_with}
 
 -- the refusal of a text names its file
 pub names : (n f : ℕ) (e : TextError) (x : SearchError) → x ≡ refused_in f e → f < n → NamesFile n x
@@ -64,10 +66,18 @@ found bytes q s rows (Some l) bits result e1 e2 n is made =
     ∙ ap (λ r. r >>= (λ docs. Ok (filter (matches (has_in rows) q) docs))) e2
     ∙ ap Ok (sym (ap places_of (made ∙ ap (λ b. zip_with ◌&&◌ b l) is) ∙ places_and (matches (has_in rows) q) l s.docs (n l refl)))
 
+-- the rows were read, and then the file of live documents refused
+pub bad_live : (bytes : ℕ → List ℕ) (q : Tree) (s : Segment) (rows : List Row) (e : SearchError) → in_file s.postings (postings (bytes s.postings) s.docs) ≡ Ok rows
+    → RefusesBy e (live_in bytes s.docs s.live) → RefusesBy e (segment_docs bytes q s)
+bad_live bytes q s rows (refusal.Bad f at) e1 e2 =
+    ap (λ r. r >>= (λ rows. live_in bytes s.docs s.live >>= (λ docs. Ok (filter (matches (has_in rows) q) docs)))) e1
+    ∙ ap (λ r. r >>= (λ docs. Ok (filter (matches (has_in rows) q) docs))) e2
+bad_live bytes q s rows (refusal.Bytes b) e1 e2 = tt
+
 pub length_kept : (live : Option (List Bool)) (bits result : List Bool) (docs : ℕ) → length bits ≡ docs → ForSome live (λ l. length l ≡ docs)
     → MatchOption live (result ≡ bits) (λ l. result ≡ zip_with ◌&&◌ bits l) → length result ≡ docs
 length_kept None bits result docs n m made = ap length made ∙ n
-length_kept (Some l) bits result docs n m made = ap length made ∙ length-zip ◌&&◌ bits l (n ∙ sym (m l refl)) ∙ n
+length_kept (Some l) bits result docs n m made = ap length made ∙ length-zip_with ◌&&◌ bits l (n ∙ sym (m l refl)) ∙ n
 
 -- what holds of a file that is there
 pub at_some : (o : Option ℕ) (n : ℕ) → IfSome o (λ f. f < n) → ForSome o (λ f. f < n)

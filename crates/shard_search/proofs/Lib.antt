@@ -7,4 +7,5 @@ pub mod TermLemmas
 pub mod Going
 pub mod FileLemmas
 pub mod HitLemmas
+pub mod Shelves
 pub mod FetchLemmas

@@ -6,6 +6,7 @@ use Rattle.std.proofs.lemmas.Bool.{ne_eqb, eq-eqb}
 use Rattle.std.proofs.lemmas.List.FromFn.{length-map-range_with_len, get_or-map-range_with_len}
 use Rattle.doc_bits.specs.Places.{zip_with, and_not, places_of}
 use Rattle.doc_bits.specs.Counts.{counted}
+use Rattle.doc_bits.proofs.Lists.{length-zip_with}
 use Rattle.shard_search.specs.Sets.{each_of}
 use Rattle.doc_bits.proofs.Lists.{filter-range_same as filter_same}
 
@@ -59,11 +60,6 @@ module _ {A C : Type 0} (h : A → C → A) (e : C) (law : (a : A) → h a e ≡
   zip_unit [] xs n = refl
   zip_unit (a ∷ set) [] n = absurd (omega arith)
   zip_unit (a ∷ set) (x ∷ xs) n = ap₂ ◌∷◌ (law a) (zip_unit set xs (omega arith))
-
-pub length-zip : {A B C : Type 0} (f : A → B → C) (xs : List A) (ys : List B) → length xs ≡ length ys → length (zip_with f xs ys) ≡ length xs
-length-zip f [] ys n = refl
-length-zip f (x ∷ xs) [] n = absurd (omega arith)
-length-zip f (x ∷ xs) (y ∷ ys) n = ap suc (length-zip f xs ys (omega arith))
 
 pub length-each : {A : Type 0} (f : ℕ → A) (docs : ℕ) → length (each_of f docs) ≡ docs
 length-each f docs = length-map-range_with_len f 0 docs
@@ -156,7 +152,7 @@ filter_both p q (x ∷ xs) = both_cases p q x xs (p x) (q x) refl refl (filter_b
 
 pub places_and : (p : ℕ → Bool) (live : List Bool) (docs : ℕ) → length live ≡ docs → places_of (zip_with ◌&&◌ (each_of p docs) live) ≡ filter p (places_of live)
 places_and p live docs n =
-    ap (λ k. filter (λ i. slice_index_or (zip_with ◌&&◌ (each_of p docs) live) i false) (range_with_len 0 k)) (length-zip ◌&&◌ (each_of p docs) live (length-each p docs ∙ sym n) ∙ length-each p docs)
+    ap (λ k. filter (λ i. slice_index_or (zip_with ◌&&◌ (each_of p docs) live) i false) (range_with_len 0 k)) (length-zip_with ◌&&◌ (each_of p docs) live (length-each p docs ∙ sym n) ∙ length-each p docs)
     ∙ filter_same (λ i. slice_index_or (zip_with ◌&&◌ (each_of p docs) live) i false) (λ i. p i && slice_index_or live i false) 0 docs
     (λ i low high. zip_at (each_of p docs) live i ∙ ap (λ b. b && slice_index_or live i false) (get_or-map-range_with_len p 0 docs i i false (omega arith) (omega arith)))
     ∙ filter_both p (λ i. slice_index_or live i false) (range_with_len 0 docs)

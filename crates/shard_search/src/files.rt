@@ -10,10 +10,11 @@ ghost use Rattle.simpletext_postings.specs.Terms.{FitsText};
 ghost use Rattle.query_lang.specs.Trees.{tree_of};
 ghost use Rattle.shard_search.specs.Hits.{segment_docs, live_in, in_file};
 ghost use Rattle.shard_search.specs.Answers.{search_refusal, GivesSet, GivesLive, Opens, NamesFile};
+ghost use Rattle.shard_search.specs.Shelves.{kept_at, whole_file, IsKept, KeepsMore};
 
-use crate::SearchError;
 use crate::combining::matching;
 use crate::error::refused_in;
+use crate::{SearchError, Shelf};
 use directory_input::{FileBytes, Input};
 use doc_bits::DocBits;
 use mount_manifest::Segment;
@@ -23,7 +24,7 @@ use simpletext_stored::live;
 use std::alloc::Global;
 
 /// The dictionary of a segment's postings.
-fn dictionary<B: FileBytes>(
+pub(crate) fn dictionary<B: FileBytes>(
     alloc: Global,
     bytes: &mut B,
     segment: &Segment,
@@ -32,11 +33,7 @@ fn dictionary<B: FileBytes>(
     ensures rows { IsTrue (B.view bytes.old).tells
         → Opens result (in_file segment.now.postings
         (postings ((B.view bytes.old).bytes segment.now.postings) segment.now.docs)) }
-    ensures docs { IfOk result (λ d. d.docs ≡ segment.now.docs) }
-    ensures text { IsTrue (B.view bytes.old).tells
-        → IfOk result (λ d. window_bytes (B.view bytes.old).bytes d.input
-        ≡ (B.view bytes.old).bytes segment.now.postings) }
-    ensures fits { IfOk result (FitsText (B.view bytes.new)) }
+    ensures kept { IfOk result (IsKept (B.view bytes.new) segment.now) }
     ensures known { (n : ℕ) → segment.now.postings < n → IfErr result (NamesFile n) }
     ensures goes { GoesOn B.goes_by bytes.old bytes.new }
     ensures cause { HasBytesCause (B.view bytes.old) (B.view bytes.new) (search_refusal result) }
@@ -85,32 +82,37 @@ fn and_live(bits: DocBits, live: Option<DocBits>) -> DocBits
     kept
 }
 
-/// The set of the live documents of a segment that a query matches. Its postings are read before its live documents.
+/// The set of the live documents of a segment that a query matches. Its postings are read before its live documents,
+/// the whole of them only where the shelf keeps no dictionary of this segment.
 pub(crate) fn found_in<B: FileBytes>(
     alloc: Global,
     bytes: &mut B,
+    shelf: &mut Shelf,
+    number: u32,
     segment: &Segment,
     query: &Query,
 ) -> Result<DocBits, SearchError>
     requires postings { segment.now.postings < (B.view bytes.old).count }
     requires live { ForSome segment.now.live (λ f. f < (B.view bytes.old).count) }
+    requires kept { ForSome (kept_at shelf.old number) (IsKept (B.view bytes.old) segment.now) }
     ensures documents { IsTrue (B.view bytes.old).tells
         → GivesSet result (segment_docs (B.view bytes.old).bytes (tree_of query.now) segment.now) }
     ensures length { IfOk result (λ bits. length bits ≡ segment.now.docs) }
+    ensures more { KeepsMore (B.view bytes.new) number segment.now shelf.old shelf.new }
     ensures known { (n : ℕ) → segment.now.postings < n → ForSome segment.now.live (λ f. f < n)
         → IfErr result (NamesFile n) }
     ensures goes { GoesOn B.goes_by bytes.old bytes.new }
     ensures cause { HasBytesCause (B.view bytes.old) (B.view bytes.new) (search_refusal result) }
 {
-    let dictionary = match dictionary(alloc, bytes, segment) {
-        Ok(dictionary) => dictionary,
-        Err(e) => return Err(e),
-    };
+    if let Err(e) = shelf.keep(alloc, bytes, number, segment) {
+        return Err(e);
+    }
+    let dictionary = shelf.dictionary(number);
     let live = match live_set(alloc, bytes, segment) {
         Ok(live) => live,
         Err(e) => return Err(e),
     };
-    let bits = match matching(alloc, bytes, &dictionary, segment.docs, query) {
+    let bits = match matching(alloc, bytes, dictionary, segment.docs, query) {
         Ok(bits) => bits,
         Err(e) => return Err(refused_in(segment.postings, e)),
     };

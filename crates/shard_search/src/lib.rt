@@ -14,4 +14,4 @@ pub use error::SearchError;
 pub use fetching::fetch_doc;
 pub use hits::{Hit, HitList, Hits};
 pub use searching::search;
-pub use shelf::Shelf;
+pub use shelf::{Shelf, shelf_crosses};

@@ -96,6 +96,100 @@ fn reads_every_form(rt: HostRuntime) -> Result<(), Fail> {
     Ok(())
 }
 
+/// The last digit of a number.
+fn digit(number: u32) -> u8 {
+    b'0' + (number % 10) as u8
+}
+
+/// The name of a term: `t` and three digits.
+fn term_name(alloc: Global, number: u32) -> Result<Text, AllocError> {
+    let mut name = Text::of(alloc, b"t")?;
+    name.push(digit(number / 100))?;
+    name.push(digit(number / 10))?;
+    name.push(digit(number))?;
+    Ok(name)
+}
+
+/// The lines of a field that has so many terms, `t001`, `t003` and so on, the term of number i in document `first` + i.
+fn push_field(alloc: Global, text: &mut Text, terms: u32, first: u32) -> Result<(), AllocError> {
+    for i in 0..terms {
+        let name = term_name(alloc, i.wrapping_mul(2).wrapping_add(1))?;
+        let doc = first.wrapping_add(i);
+        text.extend(b"  term ")?;
+        text.extend(name.as_bytes())?;
+        let line = format!(in alloc; "\n    doc {doc}\n")?;
+        text.extend(line.as_bytes())?;
+    }
+    Ok(())
+}
+
+/// A postings text of two fields of so many terms each.
+fn two_fields(alloc: Global, terms: u32) -> Result<Text, AllocError> {
+    let mut text = Text::of(alloc, b"field a\n")?;
+    push_field(alloc, &mut text, terms, 0)?;
+    text.extend(b"field b\n")?;
+    push_field(alloc, &mut text, terms, 100)?;
+    text.extend(b"END\nchecksum 00000000000000000000\n")?;
+    Ok(text)
+}
+
+/// The document of a term, in a postings text of two fields of so many terms each; None where it is not there.
+fn document_of(
+    alloc: Global,
+    terms: u32,
+    field: &[u8],
+    term: &[u8],
+) -> Result<Option<u32>, TextError> {
+    let text = two_fields(alloc, terms)?;
+    let mut files = file_of(alloc, text.as_bytes(), 0)?;
+    let input = Input::open(&files, 0);
+    let dictionary = Dictionary::open(alloc, &mut files, input, 200)?;
+    let found = dictionary.postings(&mut files, field, term)?;
+    match found.first() {
+        Some(posting) => Ok(Some(posting.doc)),
+        None => Ok(None),
+    }
+}
+
+/// Each term of two fields, and what would stand before it.
+#[test]
+fn finds_every_term(rt: HostRuntime) -> Result<(), Fail> {
+    let alloc = rt.alloc();
+    for terms in [0u32, 1, 2, 3, 100] {
+        for i in 0..terms {
+            let before = i.wrapping_mul(2);
+            let name = term_name(alloc, before.wrapping_add(1))?;
+            let absent = term_name(alloc, before)?;
+            let in_a = document_of(alloc, terms, b"a", name.as_bytes())?;
+            assert_eq!(rt; in_a, Some(i), "{i} of {terms}");
+            let in_b = document_of(alloc, terms, b"b", name.as_bytes())?;
+            assert_eq!(rt; in_b, Some(i.wrapping_add(100)), "{i} of {terms}");
+            assert_eq!(rt; document_of(alloc, terms, b"a", absent.as_bytes())?, None);
+            assert_eq!(rt; document_of(alloc, terms, b"b", absent.as_bytes())?, None);
+        }
+    }
+    Ok(())
+}
+
+/// The empty term, fronts of terms, what goes on behind a term, and what stands before the first and behind the last.
+#[test]
+fn finds_no_other_term(rt: HostRuntime) -> Result<(), Fail> {
+    let alloc = rt.alloc();
+    for terms in [0u32, 1, 2, 3, 100] {
+        for term in ["", "t", "t00", "t0010", "t00 ", "T001", "t000", "t200", "u"] {
+            for field in ["a", "b"] {
+                let found = document_of(alloc, terms, field.as_bytes(), term.as_bytes())?;
+                assert_eq!(rt; found, None, "{term} of {terms}");
+            }
+        }
+        for field in ["", "A", "aa", "c"] {
+            let found = document_of(alloc, terms, field.as_bytes(), b"t001")?;
+            assert_eq!(rt; found, None, "{field} of {terms}");
+        }
+    }
+    Ok(())
+}
+
 #[test]
 fn names_where_a_front_ends(rt: HostRuntime) -> Result<(), Fail> {
     let alloc = rt.alloc();

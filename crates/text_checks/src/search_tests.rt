@@ -58,7 +58,14 @@ fn answer(
     let query = Query::read(alloc, query)?;
     let mut bytes = three_files(alloc, 0)?;
     assert!(rt; shard.files_len() <= 3);
-    match search(alloc, &mut bytes, &mut Shelf::new(), &shard, &query, size) {
+    match search(
+        alloc,
+        &mut bytes,
+        &mut Shelf::new(alloc),
+        &shard,
+        &query,
+        size,
+    ) {
         Ok(hits) => Ok(text_of(alloc, &hits)?),
         Err(SearchError::Bad { file, at }) => Ok(format!(in alloc; "bad {file} {at}")?),
         Err(e) => Err(Fail::from(e)),
@@ -154,7 +161,7 @@ fn answers_after_a_fault(rt: HostRuntime) -> Result<(), Fail> {
     let shard = Manifest::read(alloc, ALL.as_bytes())?;
     let query = Query::read(alloc, b"{\"term\":{\"body\":\"fox\"}}")?;
     let mut bytes = three_files(alloc, 1)?;
-    let mut shelf = Shelf::new();
+    let mut shelf = Shelf::new(alloc);
     assert!(rt; shard.files_len() <= 3);
     let failed = matches!(
         search(alloc, &mut bytes, &mut shelf, &shard, &query, 10),
@@ -163,5 +170,27 @@ fn answers_after_a_fault(rt: HostRuntime) -> Result<(), Fail> {
     assert!(rt; failed);
     let hits = search(alloc, &mut bytes, &mut shelf, &shard, &query, 10)?;
     assert_eq!(rt; text_of(alloc, &hits)?.as_str(), "2 0/0 0/2");
+    Ok(())
+}
+
+#[test]
+fn answers_after_a_bad_text(rt: HostRuntime) -> Result<(), Fail> {
+    let alloc = rt.alloc();
+    let shard = Manifest::read(alloc, BAD.as_bytes())?;
+    let query = Query::read(alloc, b"{\"term\":{\"body\":\"fox\"}}")?;
+    let mut bytes = three_files(alloc, 0)?;
+    let mut shelf = Shelf::new(alloc);
+    assert!(rt; shard.files_len() <= 3);
+    // the first segment's dictionary is kept, and the second one's text is bad once more
+    let failed = matches!(
+        search(alloc, &mut bytes, &mut shelf, &shard, &query, 10),
+        Err(SearchError::Bad { file: 2, at: 0 })
+    );
+    assert!(rt; failed);
+    let failed = matches!(
+        search(alloc, &mut bytes, &mut shelf, &shard, &query, 10),
+        Err(SearchError::Bad { file: 2, at: 0 })
+    );
+    assert!(rt; failed);
     Ok(())
 }

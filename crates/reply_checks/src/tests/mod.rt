@@ -60,7 +60,7 @@ fn ask_shard(
     match ask {
         Ask::Mount => Ok(Ok(mounted_reply(shard))),
         Ask::Search(size, query) => {
-            let mut shelf = Shelf::new();
+            let mut shelf = Shelf::new(alloc);
             Ok(search_reply(alloc, &mut bytes, &mut shelf, shard, size, query.as_bytes()))
         }
         Ask::Fetch(segment, doc) => {

@@ -3,6 +3,7 @@ ghost use Rattle.std.specs.Prelude.{◌<◌};
 
 mod lucene_tests;
 mod sample_tests;
+mod shelf_tests;
 
 use blob_parts::{DirectBytes, load, resolve};
 use cache_outside::{Archive, MemSource};
@@ -42,7 +43,14 @@ fn found<A: Archive>(
         return Ok(String::from_str(alloc, "not resolved")?);
     };
     let mut bytes = DirectBytes::<A, MemSource<A>>::new(source, &table);
-    match search(alloc, &mut bytes, &mut Shelf::new(), &shard, &query, size) {
+    match search(
+        alloc,
+        &mut bytes,
+        &mut Shelf::new(alloc),
+        &shard,
+        &query,
+        size,
+    ) {
         Ok(hits) => text_of(alloc, &hits),
         Err(_) => Ok(String::from_str(alloc, "refused")?),
     }
