@@ -10,6 +10,8 @@ mod doors;
 #[cfg(test)]
 mod faulty;
 #[cfg(test)]
+mod passes;
+#[cfg(test)]
 mod reads;
 #[cfg(test)]
 mod samples;

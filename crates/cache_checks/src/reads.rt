@@ -5,6 +5,7 @@ ghost use Rattle.directory_input.specs.Reads.{one_read};
 ghost use Rattle.cache_door.specs.Doors.{nothing};
 ghost use Rattle.region_ranges.specs.Keys.{IsConfig};
 
+use crate::passes::{read_by_one_pass, read_by_pass};
 use crate::samples::{FOUR, ONE, Stand, sample_source};
 use crate::steps::Step;
 use blob_parts::PartTable;
@@ -17,6 +18,7 @@ use region_ranges::{ByteRange, Config};
 use sample_archive::SampleArchive;
 use std::alloc::{AllocError, Global};
 use std::process::Abort;
+use std::sync::Wait;
 use std::test::Fail;
 
 /// Every access counts.
@@ -32,25 +34,32 @@ const WIDE: Config = Config {
     ..ONE
 };
 
+/// One region of 256 KiB, which is one range.
+const WHOLE: Config = Config {
+    region: 262_144,
+    range: 262_144,
+    ..ONE
+};
+
 /// A read of the first file from a place on: the bytes that are there, and what is reported, or None for a fault.
 #[derive(Clone, Copy)]
-struct Case {
-    at: u64,
-    bytes: &'static [u8],
-    answer: Option<Report>,
+pub(crate) struct Case {
+    pub(crate) at: u64,
+    pub(crate) bytes: &'static [u8],
+    pub(crate) answer: Option<Report>,
 }
 
 /// What is left behind the reads: what was read of the source, and the counts of the core.
 #[derive(Clone, Copy)]
-struct Left {
-    reads: &'static [(u32, u64, u64)],
-    evictions: u64,
-    promotions: u64,
-    mapped: u32,
-    free: u32,
+pub(crate) struct Left {
+    pub(crate) reads: &'static [(u32, u64, u64)],
+    pub(crate) evictions: u64,
+    pub(crate) promotions: u64,
+    pub(crate) mapped: u32,
+    pub(crate) free: u32,
 }
 
-fn report(hit: u64, fetched: u64, direct: u64) -> Option<Report> {
+pub(crate) fn report(hit: u64, fetched: u64, direct: u64) -> Option<Report> {
     Some(Report {
         hit,
         fetched,
@@ -67,7 +76,7 @@ fn sum(hit: u64, fetched: u64) -> Report {
     }
 }
 
-fn front(answer: Option<Report>) -> Case {
+pub(crate) fn front(answer: Option<Report>) -> Case {
     Case {
         at: 0,
         bytes: &[0, 1, 2, 3],
@@ -75,7 +84,7 @@ fn front(answer: Option<Report>) -> Case {
     }
 }
 
-fn second(answer: Option<Report>) -> Case {
+pub(crate) fn second(answer: Option<Report>) -> Case {
     Case {
         at: 4096,
         bytes: &[0x50, 0x51, 0x52, 0x53],
@@ -138,6 +147,7 @@ fn read<A: Archive, D: CacheDoor<A>>(
     requires setting { (D.view door.old).config ≡ config.now }
     requires limits { IsConfig config.now }
     requires file { 0 < length table.now.files }
+    ensures stays { D.stays door.old door.new }
     ensures hold { (D.view door.new).hold ≡ nothing }
     ensures config { (D.view door.new).config ≡ config.now }
 {
@@ -146,8 +156,8 @@ fn read<A: Archive, D: CacheDoor<A>>(
     answer == case.answer && (answer.is_none() || Some(reader.total()) == answer)
 }
 
-/// The place of the first read that answers otherwise, or None.
-fn first_other<A: Archive, D: CacheDoor<A>>(
+/// The place of the first read that answers otherwise, or None. Each read has a reader of its own.
+pub(crate) fn first_other<A: Archive, D: CacheDoor<A>>(
     rt: &(impl Abort + AllocGlobal),
     door: &mut D,
     source: &mut MemSource<A>,
@@ -159,6 +169,9 @@ fn first_other<A: Archive, D: CacheDoor<A>>(
     requires setting { (D.view door.old).config ≡ config.now }
     requires limits { IsConfig config.now }
     requires file { 0 < length table.now.files }
+    ensures stays { D.stays door.old door.new }
+    ensures hold { (D.view door.new).hold ≡ nothing }
+    ensures config { (D.view door.new).config ≡ config.now }
 {
     for (place, case) in cases.iter().enumerate() {
         if !read(rt, door, source, table, config, case) {
@@ -168,8 +181,31 @@ fn first_other<A: Archive, D: CacheDoor<A>>(
     None
 }
 
+/// The same of reads that go through one reader, whose sums behind each are these.
+pub(crate) fn first_other_sum<A: Archive, D: CacheDoor<A>>(
+    rt: &(impl Abort + AllocGlobal),
+    door: &mut D,
+    source: &mut MemSource<A>,
+    table: &PartTable<A>,
+    config: &Config,
+    cases: &[(Case, Report)],
+) -> Option<usize>
+    requires free { (D.view door.old).hold ≡ nothing }
+    requires setting { (D.view door.old).config ≡ config.now }
+    requires limits { IsConfig config.now }
+    requires file { 0 < length table.now.files }
+{
+    let mut reader = Reader::new(rt.alloc(), door, source, table, 0, config, 0);
+    for (place, (case, total)) in cases.iter().enumerate() {
+        if read_next(rt, &mut reader, case) != case.answer || reader.total() != *total {
+            return Some(place);
+        }
+    }
+    None
+}
+
 /// Makes the reads as this actor, each through a reader of its own.
-fn read_each<A: Archive + Drop>(
+pub(crate) fn read_each<A: Archive + Drop>(
     rt: &(impl Abort + AllocGlobal),
     stand: Stand<A>,
     actor: u32,
@@ -217,19 +253,25 @@ fn read_by_one<A: Archive + Drop>(
         mut core,
         config,
     } = stand;
+    assert!(rt; table.files() > 0);
     assert!(rt; core.hold_of(0).is_none());
     let mut door = core.door(0);
-    let mut reader = Reader::new(rt.alloc(), &mut door, &mut source, &table, 0, &config, 0);
-    for (case, total) in cases {
-        assert!(rt;
-            read_next(rt, &mut reader, case) == case.answer,
-            "at {}",
-            case.at
-        );
-        assert!(rt; reader.total() == *total, "at {}", case.at);
-    }
+    assert_eq!(rt;
+        first_other_sum(rt, &mut door, &mut source, &table, &config, cases),
+        None
+    );
     assert_eq!(rt; core.tally().promotions, promotions);
     Ok(())
+}
+
+/// A source of the sample archive that fails at these calls.
+fn listed_source(
+    rt: &(impl Abort + AllocGlobal),
+    fails: &[(SourceCall, u64)],
+) -> Result<MemSource<SampleArchive>, AllocError> {
+    let mut listed = Vec::new(rt.alloc());
+    listed.extend_from_slice(fails)?;
+    sample_source(rt.alloc(), listed)
 }
 
 /// A core over the sample archive's manifest, and reads of its first file.
@@ -241,11 +283,8 @@ fn stand(
 ) -> Result<Stand<SampleArchive>, AllocError>
     requires { IsConfig config.now }
 {
-    let alloc = rt.alloc();
-    let mut listed = Vec::new(alloc);
-    listed.extend_from_slice(fails)?;
-    let source = sample_source(alloc, listed)?;
-    Stand::new(rt, alloc, source, config, manifest, false)
+    let source = listed_source(rt, fails)?;
+    Stand::new(rt, rt.alloc(), source, config, manifest, false)
 }
 
 #[test]
@@ -272,7 +311,16 @@ fn what_reads_take(rt: HostRuntime) -> Result<(), Fail> {
         mapped: 3,
         free: 1,
     };
-    read_each(&rt, stand(&rt, &FOUR, "mount-y", &[])?, 0, &cases, &left)
+    read_each(&rt, stand(&rt, &FOUR, "mount-y", &[])?, 0, &cases, &left)?;
+    read_by_pass(
+        &rt,
+        listed_source(&rt, &[])?,
+        &FOUR,
+        "mount-y",
+        false,
+        &cases,
+        left.reads,
+    )
 }
 
 #[test]
@@ -289,7 +337,16 @@ fn a_read_across_two_parts(rt: HostRuntime) -> Result<(), Fail> {
         mapped: 1,
         free: 3,
     };
-    read_each(&rt, stand(&rt, &FOUR, "mount-x", &[])?, 0, &[case], &left)
+    read_each(&rt, stand(&rt, &FOUR, "mount-x", &[])?, 0, &[case], &left)?;
+    read_by_pass(
+        &rt,
+        listed_source(&rt, &[])?,
+        &FOUR,
+        "mount-x",
+        false,
+        &[case],
+        left.reads,
+    )
 }
 
 #[test]
@@ -303,7 +360,16 @@ fn a_cache_of_one_region(rt: HostRuntime) -> Result<(), Fail> {
         mapped: 1,
         free: 0,
     };
-    read_each(&rt, stand(&rt, &ONE, "mount-y", &[])?, 0, &cases, &left)
+    read_each(&rt, stand(&rt, &ONE, "mount-y", &[])?, 0, &cases, &left)?;
+    read_by_pass(
+        &rt,
+        listed_source(&rt, &[])?,
+        &ONE,
+        "mount-y",
+        false,
+        &cases,
+        left.reads,
+    )
 }
 
 /// The first actor holds the only region. The second one is turned away: it reads directly, and wants no memory.
@@ -344,6 +410,7 @@ fn a_part_that_fails(rt: HostRuntime) -> Result<(), Fail> {
     ];
     let fails = [(SourceCall::Read, 2), (SourceCall::Read, 4)];
     read_by_one(&rt, stand(&rt, &FOUR, "mount-y", &fails)?, &cases, 0)?;
+    read_by_one_pass(&rt, listed_source(&rt, &fails)?, &FOUR, "mount-y", &cases)?;
     let cases = [
         (front(None), sum(0, 0)),
         (front(report(4, 4096, 0)), sum(4, 4096)),
@@ -364,7 +431,14 @@ fn a_part_that_fails(rt: HostRuntime) -> Result<(), Fail> {
             sum(9, 8192),
         ),
     ];
-    read_by_one(&rt, stand(&rt, &FOUR, "mount-y", &fails[..1])?, &cases, 0)
+    read_by_one(&rt, stand(&rt, &FOUR, "mount-y", &fails[..1])?, &cases, 0)?;
+    read_by_one_pass(
+        &rt,
+        listed_source(&rt, &fails[..1])?,
+        &FOUR,
+        "mount-y",
+        &cases,
+    )
 }
 
 /// The part that was copied last is looked at once more with no entry, which would count as an access. A new reader
@@ -384,6 +458,7 @@ fn a_glance_comes_first(rt: HostRuntime) -> Result<(), Fail> {
         ),
     ];
     read_by_one(&rt, stand(&rt, &EAGER, "mount-y", &[])?, &cases, 0)?;
+    read_by_one_pass(&rt, listed_source(&rt, &[])?, &EAGER, "mount-y", &cases)?;
     let cases = [front(report(4, 4096, 0)), front(report(4, 0, 0))];
     let left = Left {
         reads: &[(8, 0, 93), (2, 0, 4096)],
@@ -398,8 +473,14 @@ fn a_glance_comes_first(rt: HostRuntime) -> Result<(), Fail> {
 const MANIFEST_BIG: &[u8] =
     b"{\"version\":1,\"files\":[{\"name\":\"__big\",\"physical_name\":\"big.bin\",\"length\":140000}],\"segments\":[]}";
 
-/// A source of one file of 140,000 bytes, all 7. Any read is answered whole.
-fn big_source(rt: &impl Abort, alloc: Global) -> Result<MemSource<Untold>, AllocError> {
+/// A source of one file of 140,000 bytes, all 7, that fails at these calls. Any other read is answered whole.
+fn big_source(
+    rt: &(impl Abort + AllocGlobal),
+    fails: &[(SourceCall, u64)],
+) -> Result<MemSource<Untold>, AllocError> {
+    let alloc = rt.alloc();
+    let mut listed = Vec::new(alloc);
+    listed.extend_from_slice(fails)?;
     let mut blobs = Blobs::new(alloc);
     let bytes = Text::from_vec(vec![in alloc; 7; 140_000]?);
     for (name, bytes) in [
@@ -411,32 +492,64 @@ fn big_source(rt: &impl Abort, alloc: Global) -> Result<MemSource<Untold>, Alloc
         }
     }
     assert!(rt; manifests_in(&blobs) <= 65_536);
-    Ok(MemSource::<Untold>::new(alloc, blobs, 1_000_000, Vec::new(alloc)))
+    Ok(MemSource::<Untold>::new(alloc, blobs, 1_000_000, listed))
 }
 
-/// A gap is fetched in pieces of 65,536 bytes.
-#[test]
-fn pieces_of_a_gap(rt: HostRuntime) -> Result<(), Fail> {
-    let alloc = rt.alloc();
-    let stand = Stand::new(
-        &rt,
-        alloc,
-        big_source(&rt, alloc)?,
-        &WIDE,
-        "mount-big",
-        false,
-    )?;
-    let case = Case {
-        at: 131_000,
-        bytes: &[7, 7],
-        answer: report(2, 131_072, 0),
-    };
+/// Makes the reads of that file through a core and through a pass, each of one region.
+fn read_big(
+    rt: &(impl Abort + AllocGlobal + Wait),
+    config: &Config,
+    fails: &[(SourceCall, u64)],
+    cases: &[Case],
+    reads: &'static [(u32, u64, u64)],
+) -> Result<(), Fail>
+    requires { IsConfig config.now }
+{
+    let source = big_source(rt, fails)?;
+    let stand = Stand::new(rt, rt.alloc(), source, config, "mount-big", false)?;
     let left = Left {
-        reads: &[(1, 0, 96), (0, 0, 65_536), (0, 65_536, 65_536)],
+        reads,
         evictions: 0,
         promotions: 0,
         mapped: 1,
         free: 0,
     };
-    read_each(&rt, stand, 0, &[case], &left)
+    read_each(rt, stand, 0, cases, &left)?;
+    let source = big_source(rt, fails)?;
+    read_by_pass(rt, source, config, "mount-big", false, cases, reads)
+}
+
+/// A gap is fetched in pieces of 65,536 bytes.
+#[test]
+fn pieces_of_a_gap(rt: HostRuntime) -> Result<(), Fail> {
+    let case = Case {
+        at: 131_000,
+        bytes: &[7, 7],
+        answer: report(2, 131_072, 0),
+    };
+    let reads = &[(1, 0, 96), (0, 0, 65_536), (0, 65_536, 65_536)];
+    read_big(&rt, &WIDE, &[], &[case], reads)
+}
+
+/// The second piece of the gap fails: the first one stays, and the next gap begins behind it.
+#[test]
+fn a_piece_that_fails(rt: HostRuntime) -> Result<(), Fail> {
+    let far = |answer: Option<Report>| Case {
+        at: 100_000,
+        bytes: &[7, 7, 7, 7],
+        answer,
+    };
+    let near = Case {
+        at: 0,
+        bytes: &[7, 7, 7, 7],
+        answer: report(4, 0, 0),
+    };
+    let cases = [far(None), near, far(report(4, 74_464, 0))];
+    let reads = &[
+        (1, 0, 96),
+        (0, 0, 65_536),
+        (0, 65_536, 65_536),
+        (0, 131_072, 8928),
+    ];
+    read_big(&rt, &WHOLE, &[(SourceCall::Read, 3)], &cases, reads)
 }

@@ -62,7 +62,11 @@ pub struct Stand<A: Archive + Drop> {
 }
 
 // A frame for each region of the cache, each of which fails once at a put and once at a get where it is told to.
-fn frames(alloc: Global, config: &Config, failing: bool) -> Result<Vec<Faulty>, AllocError>
+pub(crate) fn frames(
+    alloc: Global,
+    config: &Config,
+    failing: bool,
+) -> Result<Vec<Faulty>, AllocError>
     ensures count { IfOk result (λ fs. length fs.items ≡ config.now.regions) }
     ensures sizes { IfOk result (λ fs. All (λ f. (faulty_view f.frame f.faults).size ≡ config.now.region) fs.items) }
 {

@@ -75,7 +75,11 @@ fn are_counted(bytes: &[u8], first: u64) -> bool {
 }
 
 // What an entry wants for a part of the table's first file, where it may be wanted.
-fn want_of<A: Archive>(table: &PartTable<A>, config: &Config, part: ByteRange) -> Option<Want>
+pub(crate) fn want_of<A: Archive>(
+    table: &PartTable<A>,
+    config: &Config,
+    part: ByteRange,
+) -> Option<Want>
     requires config { IsConfig config.now }
     requires file { 0 < length table.now.files }
     ensures key { IfSome result (IsOfPart table.now.number config.now.region part.start) }

@@ -8,3 +8,4 @@ pub mod Finds
 pub mod Chosen
 pub mod Doors
 pub mod Entered
+pub mod KeptBetween

@@ -7,3 +7,4 @@ pub mod Views
 pub mod Opened
 pub mod Entries
 pub mod Doors
+pub mod Between

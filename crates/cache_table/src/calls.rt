@@ -1,5 +1,6 @@
 //! The calls of a pass that holds a region, and the look of one that holds none.
-ghost use Rattle.std.specs.Prelude.{◌≡◌, ◌≢◌, ◌↔◌, ◌∷◌, ℕ, List, ◌+◌, ◌-◌, ◌<◌, ◌≤◌, ◌^◌, IsTrue, OnOk, OnErr, IsErr};
+ghost use Rattle.std.specs.Prelude.{◌≡◌, ◌≢◌, ◌↔◌, ◌∷◌, ℕ, List, ◌+◌, ◌-◌, ◌<◌, ◌≤◌, ◌^◌, IsTrue, OnOk};
+ghost use Rattle.std.specs.Prelude.{OnErr, IsErr};
 ghost use Rattle.std.specs.Prelude.{IfOk, IfSome, true, length, [], ◌∷◌, Some, None, Ok};
 ghost use Rattle.blob_parts.specs.Content.{content, slice_of};
 ghost use Rattle.region_ranges.specs.Keys.{tag_of as key_tag};

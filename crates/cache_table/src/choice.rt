@@ -1,6 +1,7 @@
 //! The choice of a region for a key that is not mapped, inside the cache's turn. Each region that is looked at is
 //! examined in its own turn, which is given back before another region's turn is taken.
-ghost use Rattle.std.specs.Prelude.{◌≡◌, ◌≢◌, ◌==◌, ℕ, ◌+◌, ◌*◌, ◌/◌, ◌%◌, ◌<◌, ◌≤◌, [], ◌∷◌, IsTrue, IsSome, IfSome};
+ghost use Rattle.std.specs.Prelude.{◌≡◌, ◌≢◌, ◌==◌, ℕ, ◌+◌, ◌*◌, ◌/◌, ◌%◌, ◌<◌, ◌≤◌, [], ◌∷◌, IsTrue, IsSome};
+ghost use Rattle.std.specs.Prelude.{IfSome};
 ghost use Rattle.std.specs.Prelude.{IfNone, Some, None, length, take, slice_get, if◌then◌else◌};
 ghost use Rattle.blob_parts.specs.Content.{content};
 ghost use Rattle.atomic_table.specs.Table.{rest};

@@ -1,5 +1,6 @@
 //! The calls of a pass that holds a region.
-ghost use Rattle.std.specs.Prelude.{◌≡◌, ◌≢◌, ◌↔◌, ℕ, ◌+◌, ◌-◌, ◌*◌, ◌/◌, ◌%◌, ◌<◌, ◌≤◌, IsTrue, OnOk, OnErr, IsErr};
+ghost use Rattle.std.specs.Prelude.{◌≡◌, ◌≢◌, ◌↔◌, ℕ, ◌+◌, ◌-◌, ◌*◌, ◌/◌, ◌%◌, ◌<◌, ◌≤◌, IsTrue, OnOk, OnErr};
+ghost use Rattle.std.specs.Prelude.{IsErr};
 ghost use Rattle.std.specs.Prelude.{IfOk, List, length, [], ◌∷◌, ◌++◌, Option, Some, None};
 ghost use Rattle.blob_parts.specs.Content.{content, slice_of};
 ghost use Rattle.region_ranges.specs.Keys.{manifest_of};

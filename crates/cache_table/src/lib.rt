@@ -2,6 +2,7 @@
 //! passes, and the calls of a pass on the cache.
 #![tactic(auto)]
 
+mod between;
 mod cache;
 mod calls;
 mod choice;
@@ -23,6 +24,7 @@ mod sharing;
 mod turns;
 mod view;
 
+pub use between::{BetweenSteps, kept_between};
 pub use cache::{SharedCache, cache_crosses};
 pub use door::TableDoor;
 pub use home::{Home, home_crosses};

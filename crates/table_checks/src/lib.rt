@@ -2,4 +2,10 @@
 #![tactic(auto)]
 
 #[cfg(test)]
-mod tests;
+mod copiers;
+#[cfg(test)]
+mod passes;
+#[cfg(test)]
+mod samples;
+#[cfg(test)]
+mod workers;
