@@ -113,7 +113,7 @@ kinds_more r [] (y ∷ xs) l x h one = absurd h
 kinds_more r (k ∷ ls) [] l x h one = absurd h
 kinds_more r (k ∷ ls) (y ∷ xs) l x h one = (h.0, kinds_more r ls xs l x h.1 one)
 
-source_read : (c : Command) → IsTrue (reads_files c) → IsTrue (reads_source c)
+pub source_read : (c : Command) → IsTrue (reads_files c) → IsTrue (reads_source c)
 source_read (Mount name manifest) h = refl
 source_read (Unmount name) h = h
 source_read (Clear name) h = h
@@ -486,7 +486,7 @@ block_single [] l h e k = absurd h
 block_single (m ∷ ls) l (inl h) e k = let f : is_shared l.command ≡ true = ap (λ (n : Line). is_shared n.command) e ∙ h.0 in absurd (cc)
 block_single (m ∷ ls) l (inr h) e k = ap₂ (λ (n : Line) (ns : List Line). n ∷ ns) (sym e) h.1
 
-both_told : (a b : Bool) → IsTrue (a && b) → IsTrue a
+pub both_told : (a b : Bool) → IsTrue (a && b) → IsTrue a
 both_told true b h = refl
 both_told false b h = absurd (cc)
 

@@ -2,7 +2,9 @@ pub mod Behind
 pub mod Rosters
 pub mod Regions
 pub mod Carried
+pub mod KeptShelves
 pub mod Blocks
 pub mod Counts
 pub mod Runs
 pub mod Scripts
+pub mod News

@@ -3,6 +3,7 @@ pub mod Allowed
 pub mod Texts
 pub mod Clocks
 pub mod Counters
+pub mod Shelves
 pub mod Lines
 pub mod MountLines
 pub mod Blocks

@@ -10,6 +10,7 @@ ghost use Rattle.script_run.specs.Runs.{IsRun, outside};
 
 use crate::block::run_block;
 use crate::ended::Ended;
+use crate::shelves::Shelves;
 use crate::sums::Sums;
 use crate::written::write_block;
 use cache_door::Core;
@@ -83,6 +84,7 @@ pub fn run_alone<A: Archive + Drop, F: Frame + Drop, S: BlobSource<A>, K: Sink, 
     ensures idle { IsIdle core.new }
 {
     let mut roster = Roster::new(alloc);
+    let mut shelves = Shelves::new(alloc);
     let mut sums = Sums::new();
     let mut marked = false;
     let mut lacking = false;
@@ -97,6 +99,7 @@ pub fn run_alone<A: Archive + Drop, F: Frame + Drop, S: BlobSource<A>, K: Sink, 
             core,
             source,
             &mut roster,
+            &mut shelves,
             config,
             block,
             now,

@@ -1,12 +1,16 @@
 // A block of lines by the one actor of a core.
-ghost use Rattle.std.specs.Prelude.{◌≡◌, ◌<◌, ◌≤◌, ◌+◌, ◌++◌, ◌∷◌, ◌&&◌, [], List, ℕ, None, length, vec_len, vec_capacity, if◌then◌else◌};
+ghost use Rattle.std.specs.Prelude.{◌≡◌, ◌<◌, ◌≤◌, ◌+◌, ◌++◌, ◌∷◌, ◌&&◌, [], List, ℕ, None, length, vec_len};
+ghost use Rattle.std.specs.Prelude.{vec_capacity, if◌then◌else◌};
 ghost use Rattle.index_mounts.specs.Rosters.{mounted};
 ghost use Rattle.region_ranges.specs.Keys.{IsConfig};
 ghost use Rattle.cache_door.specs.Cores.{all_tell};
 ghost use Rattle.script_run.specs.Lines.{is_shared};
-ghost use Rattle.script_run.specs.Blocks.{alone, IsIdle, IsBlock, AllShared, UnmountedIn, LinesRan, BlockRan, BlockStats, NoStats, Forgotten, forgets, SumsLater};
+ghost use Rattle.script_run.specs.Blocks.{alone, IsIdle, IsBlock, AllShared, UnmountedIn, LinesRan, BlockRan};
+ghost use Rattle.script_run.specs.Blocks.{BlockStats, NoStats, Forgotten, forgets, SumsLater};
+ghost use Rattle.script_run.specs.Shelves.{ShelvesFit};
 
 use crate::core_lines::{core_line, core_mount};
+use crate::shelves::Shelves;
 use crate::stats::stats_reply;
 use crate::sums::Sums;
 use cache_door::Core;
@@ -42,6 +46,7 @@ fn run_lines<A: Archive + Drop, F: Frame + Drop, S: BlobSource<A>>(
     core: &mut Core<A, F>,
     source: &mut S,
     roster: &Roster<A>,
+    shelves: &mut Shelves,
     config: &Config,
     block: &[Line],
     now: u64,
@@ -54,15 +59,26 @@ fn run_lines<A: Archive + Drop, F: Frame + Drop, S: BlobSource<A>>(
     requires limits { IsConfig config.now }
     requires shared { AllShared block.now }
     requires unmounted { UnmountedIn roster.now [] core.old }
+    requires shelves { ShelvesFit (A.tells && all_tell core.old.cells) A.blobs roster.now shelves.old }
     requires none { (replies.old.items ≡ []) × (vec_len replies.old ≡ 0) }
     requires room { length block.now ≤ vec_capacity replies.old }
     ensures ran { LinesRan (alone (A.tells && all_tell core.old.cells) A.blobs config.now.regions) roster.now block.now
         block.now replies.new.items (S.view source.old) (S.view source.new) core.old core.new }
+    ensures shelves { ShelvesFit (A.tells && all_tell core.old.cells) A.blobs roster.now shelves.new }
     ensures sums { SumsLater sums.old sums.new }
 {
     roster.lesson();
     for line in block {
-        let answer = core_line(alloc, core, source, roster, config, &line.command, now);
+        let answer = core_line(
+            alloc,
+            core,
+            source,
+            roster,
+            shelves,
+            config,
+            &line.command,
+            now,
+        );
         sums.add(&answer.report);
         put(replies, answer.reply);
     }
@@ -96,6 +112,7 @@ fn shared_block<A: Archive + Drop, F: Frame + Drop, S: BlobSource<A>>(
     core: &mut Core<A, F>,
     source: &mut S,
     roster: &mut Roster<A>,
+    shelves: &mut Shelves,
     config: &Config,
     block: &[Line],
     now: u64,
@@ -108,15 +125,17 @@ fn shared_block<A: Archive + Drop, F: Frame + Drop, S: BlobSource<A>>(
     requires limits { IsConfig config.now }
     requires shared { AllShared block.now }
     requires unmounted { UnmountedIn roster.old [] core.old }
+    requires shelves { ShelvesFit (A.tells && all_tell core.old.cells) A.blobs roster.old shelves.old }
     requires none { (replies.old.items ≡ []) × (vec_len replies.old ≡ 0) }
     requires room { length block.now ≤ vec_capacity replies.old }
     ensures ran { BlockRan (alone (A.tells && all_tell core.old.cells) A.blobs config.now.regions) roster.old roster.new
         block.now replies.new.items (S.view source.old) (S.view source.new) core.old core.new }
     ensures stats { NoStats replies.new.items }
+    ensures shelves { ShelvesFit (A.tells && all_tell core.old.cells) A.blobs roster.new shelves.new }
     ensures sums { SumsLater sums.old sums.new }
 {
     run_lines(
-        alloc, core, source, roster, config, block, now, sums, replies,
+        alloc, core, source, roster, shelves, config, block, now, sums, replies,
     );
     forget(roster, block, replies);
 }
@@ -128,6 +147,7 @@ pub(crate) fn run_block<A: Archive + Drop, F: Frame + Drop, S: BlobSource<A>>(
     core: &mut Core<A, F>,
     source: &mut S,
     roster: &mut Roster<A>,
+    shelves: &mut Shelves,
     config: &Config,
     block: &[Line],
     now: u64,
@@ -140,17 +160,19 @@ pub(crate) fn run_block<A: Archive + Drop, F: Frame + Drop, S: BlobSource<A>>(
     requires limits { IsConfig config.now }
     requires block { IsBlock block.now }
     requires unmounted { UnmountedIn roster.old [] core.old }
+    requires shelves { ShelvesFit (A.tells && all_tell core.old.cells) A.blobs roster.old shelves.old }
     requires none { (replies.old.items ≡ []) × (vec_len replies.old ≡ 0) }
     requires room { length block.now ≤ vec_capacity replies.old }
     ensures ran { BlockRan (alone (A.tells && all_tell core.old.cells) A.blobs config.now.regions) roster.old roster.new
         block.now replies.new.items (S.view source.old) (S.view source.new) core.old core.new }
     ensures stats { BlockStats core.old core.new sums.old sums.new replies.new.items }
+    ensures shelves { ShelvesFit (A.tells && all_tell core.old.cells) A.blobs roster.new shelves.new }
     ensures sums { SumsLater sums.old sums.new }
 {
     let first = &block[0].command;
     if is_shared(first) {
         shared_block(
-            alloc, core, source, roster, config, block, now, sums, replies,
+            alloc, core, source, roster, shelves, config, block, now, sums, replies,
         );
         return;
     }

@@ -10,10 +10,12 @@ ghost use Rattle.script_run.specs.Mounting.{mounts_of};
 ghost use Rattle.script_run.specs.Lines.{is_shared, cached, IsAnswer, IsMarked, HasKind, LineDoes};
 ghost use Rattle.script_run.specs.MountLines.{MountKind, RosterGoes, MountDoes};
 ghost use Rattle.script_run.specs.Blocks.{seen, IsIdle};
+ghost use Rattle.script_run.specs.Shelves.{ShelvesFit};
 
 use crate::answer::Answer;
 use crate::line::run_line;
 use crate::mounting::mount_line;
+use crate::shelves::Shelves;
 use byte_text::Name;
 use cache_door::Core;
 use cache_outside::{Archive, BlobSource, Frame};
@@ -28,6 +30,7 @@ pub(crate) fn core_line<A: Archive + Drop, F: Frame + Drop, S: BlobSource<A>>(
     core: &mut Core<A, F>,
     source: &mut S,
     roster: &Roster<A>,
+    shelves: &mut Shelves,
     config: &Config,
     command: &Command,
     now: u64,
@@ -37,11 +40,13 @@ pub(crate) fn core_line<A: Archive + Drop, F: Frame + Drop, S: BlobSource<A>>(
     requires setting { core.old.config ≡ config.now }
     requires limits { IsConfig config.now }
     requires shared { is_shared command.now ≡ true }
+    requires shelves { ShelvesFit (A.tells && all_tell core.old.cells) A.blobs roster.now shelves.old }
     ensures reply { IsAnswer (A.tells && all_tell core.old.cells)
         (expected_reply A.blobs (mounts_of roster.now) command.now) result.reply }
     ensures mark { IsMarked command.now (mounted (used_name command.now) roster.now)
         (seen (S.view source.old) core.old) (seen (S.view source.new) core.new) result.reply }
     ensures kind { HasKind command.now (mounted (used_name command.now) roster.now) result.reply }
+    ensures shelves { ShelvesFit (A.tells && all_tell core.old.cells) A.blobs roster.now shelves.new }
     ensures later { Later core.old core.new }
     ensures idle { IsIdle core.new }
     ensures source { SourceLater (S.view source.old) (S.view source.new) (result.reply ≡ reply.Fault) }
@@ -50,7 +55,9 @@ pub(crate) fn core_line<A: Archive + Drop, F: Frame + Drop, S: BlobSource<A>>(
         (seen (S.view source.new) core.new) }
 {
     let mut door = core.door(0);
-    run_line(alloc, &mut door, source, roster, config, command, now)
+    run_line(
+        alloc, &mut door, source, roster, shelves, config, command, now,
+    )
 }
 
 /// A `mount` line.

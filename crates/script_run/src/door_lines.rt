@@ -1,5 +1,5 @@
 // Lines that read a mount's files through a door. Each lends the door and the source to one reader.
-ghost use Rattle.std.specs.Prelude.{◌≡◌, ◌<◌, ◌≤◌, IsTrue, IfOk, length};
+ghost use Rattle.std.specs.Prelude.{◌≡◌, ◌<◌, ◌≤◌, ◌&&◌, IsTrue, IfOk, length};
 ghost use Rattle.region_ranges.specs.Keys.{IsConfig};
 ghost use Rattle.directory_input.specs.Causes.{refusal};
 ghost use Rattle.blob_parts.specs.Content.{content};
@@ -9,6 +9,7 @@ ghost use Rattle.index_mounts.specs.Calls.{mount_view};
 ghost use Rattle.shard_replies.specs.Answers.{HasHits, HasFields, HasBytes};
 ghost use Rattle.shard_replies.specs.ExpectedReplies.{search_reply, fetch_reply, read_reply};
 ghost use Rattle.script_run.specs.Lines.{cached, reading, LineReads};
+ghost use Rattle.script_run.specs.Shelves.{BelongsTo};
 
 use byte_text::Name;
 use cache_door::CacheDoor;
@@ -22,12 +23,13 @@ use shard_replies::{fetch_reply, read_reply, search_reply};
 use shard_search::Shelf;
 use std::alloc::Global;
 
-/// A search, and the sums of what its reads did.
+/// A search, and the sums of what its reads did. The shelf is one that belongs to this mount, and does so afterwards.
 pub(crate) fn search_line<A: Archive, D: CacheDoor<A>, S: BlobSource<A>>(
     alloc: Global,
     door: &mut D,
     source: &mut S,
     mount: &Mounted<A>,
+    shelf: &mut Shelf,
     config: &Config,
     now: u64,
     size: u32,
@@ -38,17 +40,18 @@ pub(crate) fn search_line<A: Archive, D: CacheDoor<A>, S: BlobSource<A>>(
     requires limits { IsConfig config.now }
     requires below { mount.now.mount < 4096 }
     requires files { length mount.now.manifest.files ≤ length mount.now.parts.files }
+    requires shelf { BelongsTo (A.tells && (D.view door.old).frames_tell) A.blobs shelf.old (mount_view mount.now) }
     ensures reply { IsTrue A.tells → IsTrue (D.view door.old).frames_tell → IfOk result.0
         (λ r. r ≡ search_reply (content A.blobs mount.now.parts.number) mount.now.manifest size query.now) }
     ensures form { IfOk result.0 HasHits }
+    ensures shelf { BelongsTo (A.tells && (D.view door.old).frames_tell) A.blobs shelf.new (mount_view mount.now) }
     ensures stays { D.stays door.old door.new }
     ensures hold { (D.view door.new).hold ≡ nothing }
     ensures goes { LineReads (reading (cached A.tells A.blobs config.now) (mount_view mount.now) now) (refusal result.0)
         result.1 (moment (S.view source.old) (D.view door.old)) (moment (S.view source.new) (D.view door.new)) }
 {
     let mut bytes = Reader::new(alloc, door, source, &mount.parts, mount.mount, config, now);
-    let mut shelf = Shelf::new();
-    let reply = search_reply(alloc, &mut bytes, &mut shelf, &mount.manifest, size, query);
+    let reply = search_reply(alloc, &mut bytes, shelf, &mount.manifest, size, query);
     let report = bytes.total();
     (reply, report)
 }

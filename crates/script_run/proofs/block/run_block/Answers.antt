@@ -4,6 +4,7 @@ use Rattle.mount_script.specs.declared.command.Command.TheVariants.{Mount}
 use Rattle.mount_script.specs.declared.command.Line.{Line}
 use Rattle.script_run.specs.Lines.{is_shared}
 use Rattle.script_run.proofs.Blocks.{block_single, mount_ran}
+use Rattle.script_run.proofs.KeptShelves.{fits_mounted}
 use Rattle.script_run.proofs.block.run_block.Goals as goal
 
 pub returns-in-Mount-clause-ran : goal.returns-in-Mount-clause-ran
@@ -16,3 +17,7 @@ returns-in-Mount-clause-ran g c =
     let told = c.core_mount-reply.ensures in
     mount_ran g.A.Archive.tells _ g.A.Archive.blobs _ c.args.block.now c.index-block-0.result c.in-Mount.name c.in-Mount.manifest _ _ x _ _ _ _ _ one command only
     c.requires.idle c.requires.unmounted told.reply told.kind told.roster told.later told.source told.does
+
+pub returns-in-Mount-clause-shelves : goal.returns-in-Mount-clause-shelves
+returns-in-Mount-clause-shelves g c =
+    fits_mounted _ g.A.Archive.tells g.A.Archive.blobs _ _ c.args.roster.now c.core_mount-reply.new.roster c.args.shelves.now c.requires.shelves c.core_mount-reply.result c.core_mount-reply.ensures.roster

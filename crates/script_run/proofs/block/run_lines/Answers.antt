@@ -1,11 +1,17 @@
-use Rattle.std.proofs.Common.{◌≡◌, ◌+◌, ◌∙◌, rules, refl, sym, ap, take, ◌++◌, ◌∷◌, []}
+use Rattle.std.specs.Prelude.{◌&&◌}
+use Rattle.std.proofs.Common.{Bool, subst, ◌≡◌, ◌+◌, ◌∙◌, rules, refl, sym, ap, take, ◌++◌, ◌∷◌, []}
 use Rattle.std.proofs.lemmas.List.{take_more}
 use Rattle.mount_script.specs.declared.command.Line.{Line}
+use Rattle.script_run.specs.Shelves.{ShelvesFit}
 use Rattle.script_run.proofs.Blocks.{shared_at, line_ran, ran_as}
 use Rattle.script_run.proofs.block.run_lines.Goals as goal
 
 pub core_line-answer-requires-clause-shared : goal.core_line-answer-requires-clause-shared
 core_line-answer-requires-clause-shared g c = shared_at c.args.block.now c.loop-line.line-index c.line-item.result c.requires.shared c.loop-line-test.true c.line-item.is
+
+pub core_line-answer-requires-clause-shelves : goal.core_line-answer-requires-clause-shelves
+core_line-answer-requires-clause-shelves g c =
+    subst (λ (f : Bool). ShelvesFit (g.A.Archive.tells && f) g.A.Archive.blobs c.args.roster.now c.loop-line.shelves) (sym c.loop-line.invariant.ran.core.tell) c.loop-line.invariant.shelves
 
 pub loop-line-preserved : goal.loop-line-preserved
 loop-line-preserved g c =
@@ -20,6 +26,7 @@ loop-line-preserved g c =
     c.loop-line.invariant.ran told.reply told.mark told.kind told.later told.idle told.source told.does in
     record {
       ran = ran_as _ _ ls (take i ls ++ l ∷ []) (take (i + 1) ls) _ _ _ _ _ _ next c.put.ensures.items ran;
+      shelves = subst (λ (f : Bool). ShelvesFit (g.A.Archive.tells && f) g.A.Archive.blobs c.args.roster.now c.core_line-answer.new.shelves) c.loop-line.invariant.ran.core.tell told.shelves;
       sums = search rules;
       len = search rules;
       room = search rules;

@@ -1,5 +1,6 @@
 use Rattle.std.proofs.Common.{◌∙◌, ap, length}
 use Rattle.script_run.proofs.Blocks.{shared_ran, kinds_no_stats, kinds_length}
+use Rattle.script_run.proofs.KeptShelves.{fits_forgotten}
 use Rattle.script_run.proofs.block.shared_block.Goals as goal
 
 pub forget-requires : goal.forget-requires
@@ -11,3 +12,7 @@ returns-clause-ran g c =
 
 pub returns-clause-stats : goal.returns-clause-stats
 returns-clause-stats g c = kinds_no_stats c.args.roster.now c.args.block.now c.run_lines.new.replies.items c.requires.shared c.run_lines.ensures.ran.kinds
+
+pub returns-clause-shelves : goal.returns-clause-shelves
+returns-clause-shelves g c =
+    fits_forgotten _ _ c.args.block.now c.run_lines.new.replies.items c.args.roster.now c.forget.new.roster c.run_lines.new.shelves (rw c.deref.ensures.value at c.forget.ensures) c.run_lines.ensures.shelves
