@@ -13,20 +13,11 @@ use Rattle.mount_script.specs.declared.reply.Reply.{Reply}
 use Rattle.mount_script.specs.declared.reply.Reply.TheVariants as reply
 use Rattle.shard_replies.specs.ExpectedReplies.{Mounts, expected_reply, used_name, refused}
 use Rattle.script_run.specs.Mounting.{mounts_of}
-use Rattle.script_run.specs.Allowed.{RunSetting, Allowed, AllowedFrom, IsPlain, near_lines, reads_files, reads_source, unmounted_in, is_unmount_of, may_be_gone}
+use Rattle.script_run.specs.Allowed.{RunSetting, Allowed, AllowedFrom, IsPlain, reads_files, unmounted_in, is_unmount_of, may_be_gone}
 use Rattle.script_run.specs.Blocks.{NoMounts}
 use Rattle.script_run.specs.Lines.{is_mount, IsOrNoMemory}
+use Rattle.script_run.proofs.Blocks.{source_read}
 use Rattle.shared_run.specs.Workers.{ReplyKind, SeenGone, LineAnswered, AllAnswered, has_number, unmounts, unmounted_by}
-
-source_read : (c : Command) → IsTrue (reads_files c) → IsTrue (reads_source c)
-source_read (Mount name manifest) h = refl
-source_read (Unmount name) h = h
-source_read (Clear name) h = h
-source_read Decay h = h
-source_read Stats h = h
-source_read (Search name size text) h = h
-source_read (Fetch name segment doc) h = h
-source_read (Read name file at len) h = h
 
 may_go : (near : List Line) (c : Command) → IsTrue (reads_files c) → IsTrue (unmounted_in near (used_name c)) → IsTrue (may_be_gone near c)
 may_go near (Mount name manifest) h u = h

@@ -1,6 +1,6 @@
 -- The jobs of all workers, from what holds of each.
-use Rattle.std.proofs.Common.{◌≡◌, ◌∙◌, ◌≤◌, ◌<◌, ◌+◌, ℕ, zero, suc, List, [], ◌∷◌, ◌++◌, length, map, take, drop, get_or, sym, ap, ap₂, subst, refl, arith, add-zero}
-use Rattle.std.specs.Prelude.{Vec, vec_len, vec_capacity, Option, Some, None, All}
+use Rattle.std.proofs.Common.{◌≡◌, ◌∙◌, ◌≤◌, ◌<◌, ◌+◌, ℕ, zero, suc, List, [], ◌∷◌, ◌++◌, length, map, take, drop, get_or, sym, ap, subst, refl, arith, add-zero}
+use Rattle.std.specs.Prelude.{Vec, vec_len, vec_capacity, Option, Some, None}
 use Rattle.cache_outside.specs.Sources.{SourceView}
 use Rattle.cache_table.specs.Views.{CacheView, PassView}
 use Rattle.index_mounts.specs.Rosters.{RosterView}
@@ -10,7 +10,7 @@ use Rattle.script_run.specs.Lines.{Cached}
 use Rattle.shared_run.specs.Blocks.{JobsRan}
 use Rattle.shared_run.specs.Dealt.{AreRooms, AllDealt, IsDealt}
 use Rattle.shared_run.specs.Shares.{share}
-use Rattle.shared_run.specs.Workers.{JobRan, IsReady, IsIdle}
+use Rattle.shared_run.specs.Workers.{JobRan, IsReady}
 use Rattle.shared_run.proofs.Queues.{map_at}
 
 pub map_map : {X Y Z : Type 0} (f : Y → Z) (g : X → Y) (xs : List X) → map f (map g xs) ≡ map (λ x. f (g x)) xs

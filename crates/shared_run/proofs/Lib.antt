@@ -7,7 +7,6 @@ mod Allows
 mod Sums
 mod Queues
 mod Together
-mod Jobs
+pub mod Jobs
 mod Runs
-mod Between
 mod Wholes

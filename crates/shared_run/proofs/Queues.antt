@@ -1,12 +1,12 @@
 -- The replies of the workers, taken one after another.
-use Rattle.std.proofs.Common.{◌≡◌, ◌∙◌, ◌≤◌, ◌<◌, ◌+◌, ℕ, zero, suc, Bool, true, false, cond, List, [], ◌∷◌, ◌++◌, length, map, set, take, get_or, sym, ap, ap₂, subst, ◌≢◌, inl, inr, arith, refl}
-use Rattle.std.specs.Prelude.{◌==◌, ◌%◌, Option, Some, None, option_to_list}
+use Rattle.std.proofs.Common.{◌≡◌, ◌∙◌, ◌<◌, ◌+◌, ℕ, zero, suc, Bool, true, false, cond, List, [], ◌∷◌, ◌++◌, length, map, set, take, get_or, sym, ap, ap₂, subst, ◌≢◌, inl, inr, arith, refl}
+use Rattle.std.specs.Prelude.{◌==◌, ◌%◌}
 use Rattle.std.proofs.lemmas.List.{map-append, append_assoc, append-nil, length-append, length-map, length-take-le, get_or-set_same, get_or-set_other}
 use Rattle.std.proofs.lemmas.Bool.Decides.{eqb_tells}
 use Rattle.mount_script.specs.declared.command.Line.{Line}
 use Rattle.mount_script.specs.declared.reply.Reply.{Reply}
 use Rattle.shared_run.specs.Shares.{share}
-use Rattle.shared_run.proofs.Shares.{share_append, share_room, same_is, other_is}
+use Rattle.shared_run.proofs.Shares.{share_append, share_room, same_is}
 
 -- one item more of what was made of others
 pub mapped_push : {X Y Z : Type 0} (f : X → Y) (g : Z → Y) (qs : List X) (before : List X) (js : List Z) (j : Z) (now : List X) → map f now ≡ map f qs ++ g j ∷ [] → map f qs ≡ map f before ++ map g js

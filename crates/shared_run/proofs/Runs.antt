@@ -1,9 +1,9 @@
 -- A run by several workers, block after block.
-use Rattle.std.proofs.Common.{◌≡◌, ◌∙◌, ◌≢◌, ◌≤◌, ◌<◌, ◌+◌, ℕ, zero, suc, Bool, true, false, cond, List, [], ◌∷◌, ◌++◌, length, map, set, take, drop, get_or, sym, subst, ap, ap₂, refl, inl, inr, arith, mod-eq_of_lt, min}
-use Rattle.std.specs.Prelude.{IsTrue, Option, Some, None, option_map, ◌||◌, ◌&&◌, ◌==◌, ◌%◌, ◌^◌, ◌-◌, count_by, slice_get}
+use Rattle.std.proofs.Common.{◌≡◌, ◌∙◌, ◌≤◌, ◌<◌, ◌+◌, ℕ, zero, suc, Bool, true, false, cond, List, [], ◌∷◌, ◌++◌, length, map, set, take, drop, get_or, sym, subst, ap, ap₂, refl, inl, inr, arith, mod-eq_of_lt, min}
+use Rattle.std.specs.Prelude.{IsTrue, Option, Some, None, option_map, ◌||◌, ◌&&◌, ◌==◌, ◌%◌, ◌^◌, ◌-◌, ◌*◌, count_by, sum_by, slice_get}
 use Rattle.std.specs.List.{list_any}
 use Rattle.std.specs.Str.{bytes_eq}
-use Rattle.std.proofs.Math.Nat.{le_refl, le_trans}
+use Rattle.std.proofs.Math.Nat.{le_refl, le_trans, mul-le-mul_left}
 use Rattle.std.proofs.Math.Seq.{take-length}
 use Rattle.std.proofs.lemmas.Bool.Decides.{Decides-eqb}
 use Rattle.std.proofs.lemmas.List.{append-nil, take-append-drop}
@@ -15,6 +15,8 @@ use Rattle.cache_outside.specs.Listing.{Listing}
 use Rattle.cache_outside.specs.Sinks.{SinkView, behind}
 use Rattle.cache_outside.specs.Sources.{SourceView}
 use Rattle.cache_reader.specs.Reports.{Grew}
+use Rattle.cache_reader.specs.Through.{bounded_none, bounded_more, rose_first, rose_then}
+use Rattle.region_ranges.specs.declared.keys.Config.{Config}
 use Rattle.cache_table.specs.Calls.{marks}
 use Rattle.cache_table.specs.Views.{CacheView, PassView}
 use Rattle.index_mounts.specs.Rosters.{MountView, RosterView, IsRoster, mounted, no_mounts}
@@ -25,26 +27,60 @@ use Rattle.mount_script.specs.declared.reply.Reply.{Reply}
 use Rattle.mount_script.specs.declared.reply.Reply.TheVariants as reply
 use Rattle.shard_replies.specs.ExpectedReplies.{Mounts, mount_reply, used_name}
 use Rattle.script_run.specs.Mounting.{mounts_of, after_block, after_blocks, nothing_mounted}
-use Rattle.script_run.specs.Allowed.{RunSetting, Allowed, AllowedFrom, AllowedBlock, AllowedRun, near_lines, is_unmount_of, faults_of, run_faults, is_fault, Bears, is_mark, is_memory, some_reply}
+use Rattle.script_run.specs.Allowed.{RunSetting, Allowed, AllowedBlock, near_lines, is_unmount_of, faults_of, run_faults, is_fault, Bears, is_mark, is_memory}
 use Rattle.script_run.specs.Blocks.{NoMounts, IsBlock, Forgotten, forgets, forgets_any}
 use Rattle.script_run.specs.Clocks.{times_asked}
 use Rattle.script_run.specs.Counters.{all_replies}
-use Rattle.script_run.specs.Lines.{Cached, is_mount, is_shared, IsAnswer}
+use Rattle.script_run.specs.Lines.{Cached, cached, is_mount, is_shared, IsAnswer}
 use Rattle.script_run.specs.MountLines.{MountKind, RosterGoes}
-use Rattle.script_run.specs.Runs.{EndsBy, IsFront, IsDone}
+use Rattle.script_run.specs.Runs.{EndsBy, IsFront}
 use Rattle.script_run.specs.Texts.{run_text, block_text}
 use Rattle.script_run.specs.declared.ended.Ended.{Ended}
 use Rattle.script_run.specs.declared.ended.Ended.TheVariants.{Done, SinkFault, NoMemory}
 use Rattle.script_run.proofs.Behind.{written_more, front_more, behind_nothing}
-use Rattle.script_run.proofs.Blocks.{no_mounts_of, block_makes, block_made, same_mounts, number_cond, mount_mounts, mount_cases}
+use Rattle.script_run.proofs.Blocks.{both_told, no_mounts_of, block_makes, block_made, same_mounts, number_cond, mount_mounts, mount_cases}
 use Rattle.script_run.proofs.Rosters.{mounted_with}
-use Rattle.script_run.proofs.Runs.{from_with, after_more, allowed_run, bears_add, faults_more, replies_more, some_more, count_more, many_more, clock_more, text_more, front_all, next_blocks, rose_on}
-use Rattle.shared_run.specs.Blocks.{several, source_at, BlockDid}
-use Rattle.shared_run.specs.Runs.{Outsides, outsides, IsAsked, IsSharedRun, NoneGone, BlockRan, RunSoFar, WrittenSoFar}
+use Rattle.script_run.proofs.Runs.{allowed_length, from_with, after_more, allowed_run, bears_add, faults_more, replies_more, some_more, count_more, many_more, clock_more, text_more, front_all, next_blocks, rose_on}
+use Rattle.shared_run.specs.Blocks.{several, source_at, AllTook, BlockDid}
+use Rattle.shared_run.specs.Runs.{outsides, IsAsked, BytesTaken, BlockTaken, AllTaken, NoneRose, IsSharedRun, NoneGone, BlockRan, RunSoFar, WrittenSoFar}
 use Rattle.shared_run.specs.Workers.{ReplyKind, AllAnswered, has_number, unmounts, unmounted_by, is_decayed, is_cleared}
 use Rattle.shared_run.proofs.Allows.{line_names}
 use Rattle.shared_run.proofs.LinesDone.{grew_on, same_grew}
 use Rattle.shared_run.proofs.Shares.{other_is}
+
+-- ---- bytes taken
+
+-- lines without a `mount` took what they took
+taken_apart : (block : List Line) (before now : List SourceView) (places : List (List (ℕ × ℕ))) → NoMounts block → AllTook before now places → BlockTaken block before now (sum_by length places)
+taken_apart block before now places plain took = subst (λ (b : Bool). BytesTaken b before now (sum_by length places)) (sym (none_mounts block plain)) (places, took, refl)
+  where
+    none_mounts : (ls : List Line) → NoMounts ls → list_any (λ (l : Line). is_mount l.command) ls ≡ false
+    none_mounts [] h = refl
+    none_mounts (l ∷ ls) h = ap (λ (b : Bool). b || list_any (λ (l : Line). is_mount l.command) ls) h.0 ∙ none_mounts ls h.1
+
+-- one block more
+taken_more : (done : List (List Line)) (block : List Line) (a b c : List SourceView) (n m : ℕ) → AllTaken done a b n → BlockTaken block b c m → AllTaken (done ++ block ∷ []) a c (n + m)
+taken_more [] block a b c n m h k = (c, m, 0, subst (λ (l : List SourceView). BlockTaken block l c m) h.0 k, (refl, refl), count n h.1)
+  where
+    count : (n : ℕ) → n ≡ 0 → n + m ≡ m + 0
+    count n e = omega (arith, e)
+taken_more (d ∷ ds) block a b c n m (mid, here, rest, first, h, sum) k = (mid, here, rest + m, first, taken_more ds block mid b c rest m h k, omega (arith, sum))
+
+any_both : (xs ys : List Reply) → list_any is_memory (xs ++ ys) ≡ false → (list_any is_memory xs ≡ false) × (list_any is_memory ys ≡ false)
+any_both [] ys h = (refl, h)
+any_both (x ∷ xs) ys h = by_first (is_memory x) h (any_both xs ys)
+  where
+    by_first : (b : Bool) → (b || list_any is_memory (xs ++ ys)) ≡ false → (list_any is_memory (xs ++ ys) ≡ false → (list_any is_memory xs ≡ false) × (list_any is_memory ys ≡ false))
+        → ((b || list_any is_memory xs) ≡ false) × (list_any is_memory ys ≡ false)
+    by_first true e rest = absurd (cc)
+    by_first false e rest = rest e
+
+module _ (a b c : List SourceView) (on : (i : ℕ) → (source_at a i).faults ≤ (source_at b i).faults) (up : (i : ℕ) → (source_at b i).faults ≤ (source_at c i).faults) (none : NoneRose a c) where
+  none_first : NoneRose a b
+  none_first i r = none i (rose_first (source_at a i).faults (source_at b i).faults (source_at c i).faults (up i) r)
+
+  none_then : NoneRose b c
+  none_then i r = none i (rose_then (source_at a i).faults (source_at b i).faults (source_at c i).faults (on i) r)
 
 -- ---- a block of the workers
 
@@ -133,7 +169,7 @@ module _ (e : Cached) (c : CacheView) (w regions : ℕ) (r q : RosterView) (bloc
           let own = kept.mounts k.0 k.1 k.2 in
           absurd (omega (arith, own.below, k.3, f.made, past))
 
-  pub block_ran : AllowedBlock (several told e.blobs w regions) (mounts_of r) block xs → BlockRan (several told e.blobs w regions) r q block xs before now p t
+  pub block_ran : AllowedBlock (several told e.blobs w regions) (mounts_of r) block xs → BlockRan e (several told e.blobs w regions) r q block xs before now p t
   block_ran allowed =
       let many = answered_length told e.blobs r (marks t.view.gone) block xs did.answered in
       record {
@@ -147,6 +183,13 @@ module _ (e : Cached) (c : CacheView) (w regions : ℕ) (r q : RosterView) (bloc
         identities = did.identities;
         decays = did.decays;
         clears = did.clears;
+        stored = did.stored;
+        turned = did.turned;
+        took = λ o. (let k = did.took o in record {
+          bytes = sum_by length k.places;
+          taken = taken_apart block before now k.places plain k.took;
+          bound = k.bound;
+        });
         none = block_none;
       }
 
@@ -159,10 +202,6 @@ mount_fits s m near tells name manifest (reply.Refused text) t k h = λ u. h (t 
 mount_fits s m near tells name manifest reply.Fault t k h = refl
 mount_fits s m near tells name manifest reply.NoMemory t k h = tt {0}
 mount_fits s m near tells name manifest x t k h = absurd k
-
-both_told : (a b : Bool) → IsTrue (a && b) → IsTrue a
-both_told true b h = refl
-both_told false b h = absurd (cc)
 
 -- nothing was unmounted, and no number of a mount to come
 mount_none : (tells : Bool) (blobs : Listing) (name manifest : List ℕ) (r q : RosterView) (x : Reply) (p t : PassView) → NoneGone r p → RosterGoes tells blobs name manifest r q x
@@ -230,11 +269,17 @@ mount_bears w (suc i) x a b ss some h = (other (faults_of w (suc i) 0 (x ∷ [])
     zero_faults : faults_of w (suc i) 0 (x ∷ []) ≡ 0
     zero_faults = ap {B = ℕ} (λ (b : Bool). cond (b && is_fault x) 1 0 + 0) apart
 
-mount_one : (tells frames : Bool) (blobs : Listing) (w regions number : ℕ) (name manifest : List ℕ) (r q : RosterView) (x : Reply) (a b : SourceView) (ss : List SourceView) (p t : PassView)
+none_more : (g s t a b : ℕ) → a ≤ b → s ≤ t → s + 0 + 2 * g * a ≤ t + 2 * g * b
+none_more g s t a b h k = sums (2 * g * a) (2 * g * b) (mul-le-mul_left (2 * g) h)
+  where
+    sums : (x y : ℕ) → x ≤ y → s + 0 + x ≤ t + y
+    sums x y e = omega (arith, e, k)
+
+mount_one : (tells frames : Bool) (blobs : Listing) (config : Config) (w regions number : ℕ) (name manifest : List ℕ) (r q : RosterView) (x : Reply) (a b : SourceView) (ss : List SourceView) (p t : PassView)
     → 0 < w → NoneGone r p → IsAnswer tells (mount_reply blobs (mounts_of r) name manifest) x → MountKind x → RosterGoes tells blobs name manifest r q x → SourceLater a b (x ≡ reply.Fault)
-    → ((n : ℕ) → marks t.view.unmounted n ≡ marks p.view.unmounted n) → Grew p.work.decays t.work.decays 0 → Grew p.work.clears t.work.clears 0
-    → BlockRan (several (tells && frames) blobs w regions) r q (record { number = number; command = Mount name manifest } ∷ []) (x ∷ []) (a ∷ ss) (b ∷ ss) p t
-mount_one tells frames blobs w regions number name manifest r q x a b ss p t some none answer kind goes source same decays clears =
+    → ((n : ℕ) → marks t.view.unmounted n ≡ marks p.view.unmounted n) → Grew p.work.decays t.work.decays 0 → Grew p.work.clears t.work.clears 0 → Grew p.work.stored t.work.stored 0 → Grew p.work.turned_away t.work.turned_away 0
+    → BlockRan (cached tells blobs config) (several (tells && frames) blobs w regions) r q (record { number = number; command = Mount name manifest } ∷ []) (x ∷ []) (a ∷ ss) (b ∷ ss) p t
+mount_one tells frames blobs config w regions number name manifest r q x a b ss p t some none answer kind goes source same decays clears stored turned =
     let s = several (tells && frames) blobs w regions in
     let l : Line = record { number = number; command = Mount name manifest } in
     let quiet = mount_quiet x kind in
@@ -246,29 +291,33 @@ mount_one tells frames blobs w regions number name manifest r q x a b ss p t som
       identities = ap (λ (n : ℕ). n ∷ map (λ s. s.identity) ss) source.identity;
       decays = subst (Grew p.work.decays t.work.decays) (sym quiet.0) decays;
       clears = subst (Grew p.work.clears t.work.clears) (sym quiet.1) clears;
+      stored = stored.later;
+      turned = turned.later;
+      took = λ o. record { bytes = 0; taken = refl; bound = λ enough calm below fewer. (omega (arith, stored.most), none_more config.range p.work.stored t.work.stored p.work.turned_away t.work.turned_away turned.later stored.later) };
       none = mount_none tells blobs name manifest r q x p t none goes same;
     }
 
-pub mount_ran : (tells frames : Bool) (blobs : Listing) (w regions : ℕ) (block : List Line) (l : Line) (name manifest : List ℕ) (r q : RosterView) (x : Reply) (xs : List Reply) (before now : List SourceView) (a b : SourceView) (p t : PassView)
+pub mount_ran : (tells frames : Bool) (blobs : Listing) (config : Config) (w regions : ℕ) (block : List Line) (l : Line) (name manifest : List ℕ) (r q : RosterView) (x : Reply) (xs : List Reply) (before now : List SourceView) (a b : SourceView) (p t : PassView)
     → block ≡ l ∷ [] → l.command ≡ Mount name manifest → xs ≡ x ∷ [] → 0 < length before → a ≡ source_at before 0 → now ≡ set before 0 b
     → 0 < w → NoneGone r p → IsAnswer tells (mount_reply blobs (mounts_of r) name manifest) x → MountKind x → RosterGoes tells blobs name manifest r q x → SourceLater a b (x ≡ reply.Fault)
-    → ((n : ℕ) → marks t.view.unmounted n ≡ marks p.view.unmounted n) → Grew p.work.decays t.work.decays 0 → Grew p.work.clears t.work.clears 0
-    → BlockRan (several (tells && frames) blobs w regions) r q block xs before now p t
-mount_ran tells frames blobs w regions block l name manifest r q x xs [] now a b p t one is only some first set some_workers none answer kind goes source same decays clears = absurd (omega (arith, some))
-mount_ran tells frames blobs w regions block l name manifest r q x xs (s ∷ ss) now a b p t one is only some first set some_workers none answer kind goes source same decays clears =
+    → ((n : ℕ) → marks t.view.unmounted n ≡ marks p.view.unmounted n) → Grew p.work.decays t.work.decays 0 → Grew p.work.clears t.work.clears 0 → Grew p.work.stored t.work.stored 0 → Grew p.work.turned_away t.work.turned_away 0
+    → BlockRan (cached tells blobs config) (several (tells && frames) blobs w regions) r q block xs before now p t
+mount_ran tells frames blobs config w regions block l name manifest r q x xs [] now a b p t one is only some first set some_workers none answer kind goes source same decays clears stored turned = absurd (omega (arith, some))
+mount_ran tells frames blobs config w regions block l name manifest r q x xs (s ∷ ss) now a b p t one is only some first set some_workers none answer kind goes source same decays clears stored turned =
     let S = several (tells && frames) blobs w regions in
+    let E = cached tells blobs config in
     let own : SourceLater s b (x ≡ reply.Fault) = subst (λ (k : SourceView). SourceLater k b (x ≡ reply.Fault)) first source in
-    let base = mount_one tells frames blobs w regions l.number name manifest r q x s b ss p t some_workers none answer kind goes own same decays clears in
-    subst (λ (k : List SourceView). BlockRan S r q block xs (s ∷ ss) k p t) (sym set)
-    (subst (λ (ys : List Reply). BlockRan S r q block ys (s ∷ ss) (b ∷ ss) p t) (sym only)
-    (subst (λ (ls : List Line). BlockRan S r q ls (x ∷ []) (s ∷ ss) (b ∷ ss) p t) (sym one)
-    (subst (λ (c : Command). BlockRan S r q (record { number = l.number; command = c } ∷ []) (x ∷ []) (s ∷ ss) (b ∷ ss) p t) (sym is) base)))
+    let base = mount_one tells frames blobs config w regions l.number name manifest r q x s b ss p t some_workers none answer kind goes own same decays clears stored turned in
+    subst (λ (k : List SourceView). BlockRan E S r q block xs (s ∷ ss) k p t) (sym set)
+    (subst (λ (ys : List Reply). BlockRan E S r q block ys (s ∷ ss) (b ∷ ss) p t) (sym only)
+    (subst (λ (ls : List Line). BlockRan E S r q ls (x ∷ []) (s ∷ ss) (b ∷ ss) p t) (sym one)
+    (subst (λ (c : Command). BlockRan E S r q (record { number = l.number; command = c } ∷ []) (x ∷ []) (s ∷ ss) (b ∷ ss) p t) (sym is) base)))
 
 -- ---- one block more
 
-module _ (s : RunSetting) where
+module _ (e : Cached) (s : RunSetting) where
   run_more : (done : List (List Line)) (replies : List (List Reply)) (r q : RosterView) (a b c : List SourceView) (t u d : Option (List ℕ)) (p k y : PassView) (block : List Line) (xs : List Reply)
-      → RunSoFar s done replies r a b t u p k → d ≡ option_map times_after u → BlockRan s r q block xs b c k y → RunSoFar s (done ++ block ∷ []) (replies ++ xs ∷ []) q a c t d p y
+      → RunSoFar e s done replies r a b t u p k → d ≡ option_map times_after u → BlockRan e s r q block xs b c k y → RunSoFar e s (done ++ block ∷ []) (replies ++ xs ∷ []) q a c t d p y
   run_more done replies r q a b c t u d p k y block xs h asked g =
       let m = after_blocks s.blobs done replies nothing_mounted in
       record {
@@ -281,6 +330,14 @@ module _ (s : RunSetting) where
         clock = clock_more (length done) t u d h.clock asked ∙ ap (λ (n : ℕ). option_map (times_asked n) t) (sym (count_more done block));
         decays = subst (Grew p.work.decays y.work.decays) (sym (counted is_decayed)) (grew_on p.work.decays k.work.decays y.work.decays (count_by is_decayed (all_replies replies)) (count_by is_decayed xs) h.decays g.decays);
         clears = subst (Grew p.work.clears y.work.clears) (sym (counted is_cleared)) (grew_on p.work.clears k.work.clears y.work.clears (count_by is_cleared (all_replies replies)) (count_by is_cleared xs) h.clears g.clears);
+        faults = λ i. le_trans (h.faults i) (g.faults i);
+        took = λ o. (let j = h.took o in let n = g.took o in record {
+          bytes = j.bytes + n.bytes;
+          taken = taken_more done block a b c j.bytes n.bytes j.taken n.taken;
+          bound = λ enough calm.
+              let parts = any_both (all_replies replies) xs (ap (list_any is_memory) (sym (replies_more replies xs)) ∙ enough) in
+              bounded_more e.config.range p.work k.work y.work j.bytes n.bytes g.stored g.turned (j.bound parts.0 (none_first a b c h.faults g.faults calm)) (n.bound parts.1 (none_then a b c h.faults g.faults calm));
+        });
         none = g.none;
       }
     where
@@ -289,18 +346,20 @@ module _ (s : RunSetting) where
 
   -- before the first block
   pub started : (r : RosterView) (a : List SourceView) (t : Option (List ℕ)) (p : PassView) (x : SinkView) → r ≡ no_mounts → ((n : ℕ) → marks p.view.unmounted n ≡ false)
-      → WrittenSoFar s [] r false false a a t t p p x x
-  started r a t p x e none = record {
+      → WrittenSoFar e s [] r false false a a t t p p x x
+  started r a t p x is none = record {
     replies = [];
     ran = record {
       many = refl;
       allowed = tt {0};
-      mounts = λ k. ap mounts_of e;
+      mounts = λ k. ap mounts_of is;
       bears = λ i. nothing (source_at a i).faults;
       identities = refl;
       clock = by_cases t;
       decays = same_grew p.work.decays p.work.decays 0 refl refl;
       clears = same_grew p.work.clears p.work.clears 0 refl refl;
+      faults = λ i. le_refl (source_at a i).faults;
+      took = λ o. record { bytes = 0; taken = (refl, refl); bound = λ enough calm. bounded_none e.config.range p.work };
       none = record { names = λ name m is. none m.mount; numbers = λ n past. none n };
     };
     written = behind_nothing x.written;
@@ -317,8 +376,8 @@ module _ (s : RunSetting) where
       by_cases (Some times) = refl
 
   ended : (script blocks rest : List (List Line)) (replies : List (List Reply)) (r : RosterView) (a b : List SourceView) (x y : SinkView) (t u v : ClockView) (p q : PassView) (end : Ended)
-      → script ≡ blocks ++ rest → RunSoFar s blocks replies r a b t.times u.times p q → EndsBy blocks rest replies x y end → IsAsked (length blocks) end t.times v.times
-      → IsSharedRun s script (outsides a x t) (outsides b y v) p q end
+      → script ≡ blocks ++ rest → RunSoFar e s blocks replies r a b t.times u.times p q → EndsBy blocks rest replies x y end → IsAsked (length blocks) end t.times v.times
+      → IsSharedRun e s script (outsides a x t) (outsides b y v) p q end
   ended script blocks rest replies r a b x y t u v p q end all h ends clock = record {
     blocks = blocks;
     rest = rest;
@@ -331,18 +390,19 @@ module _ (s : RunSetting) where
     clock = clock;
     decays = λ d. h.decays;
     clears = λ d. h.clears;
+    took = h.took;
   }
 
   asked_all : (n : ℕ) (end : Ended) (t u : Option (List ℕ)) → u ≡ option_map (times_asked n) t → IsAsked n end t u
-  asked_all n end t u e = record { asked = n; times = e; once = inl refl }
+  asked_all n end t u is = record { asked = n; times = is; once = inl refl }
 
   -- one block more was written
   pub written_block : (script : List (List Line)) (i : ℕ) (r q : RosterView) (marked lacking also too : Bool) (a b c : List SourceView) (t u d : Option (List ℕ)) (p k y : PassView) (x z v : SinkView) (block : List Line) (xs : List Reply)
-      → slice_get script i ≡ Some block → WrittenSoFar s (take i script) r marked lacking a b t u p k x z → d ≡ option_map times_after u → BlockRan s r q block xs b c k y
+      → slice_get script i ≡ Some block → WrittenSoFar e s (take i script) r marked lacking a b t u p k x z → d ≡ option_map times_after u → BlockRan e s r q block xs b c k y
       → also ≡ (marked || list_any is_mark xs) → too ≡ (lacking || list_any is_memory xs) → v.written ≡ behind z.written (block_text block xs) → z.faults ≤ v.faults
-      → WrittenSoFar s (take (i + 1) script) q also too a c t d p y x v
+      → WrittenSoFar e s (take (i + 1) script) q also too a c t d p y x v
   written_block script i r q marked lacking also too a b c t u d p k y x z v block xs there h asked g m l whole faults =
-      subst (λ (bs : List (List Line)). WrittenSoFar s bs q also too a c t d p y x v) (sym (next_blocks script i block there)) (record {
+      subst (λ (bs : List (List Line)). WrittenSoFar e s bs q also too a c t d p y x v) (sym (next_blocks script i block there)) (record {
         replies = h.replies ++ xs ∷ [];
         ran = run_more (take i script) h.replies r q a b c t u d p k y block xs h.ran asked g;
         written = written_more x.written z.written v.written (run_text (take i script) h.replies) (block_text block xs) h.written whole ∙ ap (behind x.written) (sym (text_more (take i script) h.replies block xs h.ran.many));
@@ -352,28 +412,28 @@ module _ (s : RunSetting) where
       })
 
   module _ (script : List (List Line)) (i : ℕ) (r q : RosterView) (marked lacking : Bool) (a b c : List SourceView) (t u d : ClockView) (p k y : PassView) (x z v : SinkView) (block : List Line) (xs : List Reply)
-      (there : slice_get script i ≡ Some block) (h : WrittenSoFar s (take i script) r marked lacking a b t.times u.times p k x z) (asked : d.times ≡ option_map times_after u.times)
-      (g : BlockRan s r q block xs b c k y) (front : IsFront z.written v.written (block_text block xs)) where
+      (there : slice_get script i ≡ Some block) (h : WrittenSoFar e s (take i script) r marked lacking a b t.times u.times p k x z) (asked : d.times ≡ option_map times_after u.times)
+      (g : BlockRan e s r q block xs b c k y) (front : IsFront z.written v.written (block_text block xs)) where
     cut_front : IsFront x.written v.written (run_text (take i script ++ block ∷ []) (h.replies ++ xs ∷ []))
     cut_front = subst (IsFront x.written v.written) (sym (text_more (take i script) h.replies block xs h.ran.many)) (front_more x.written z.written v.written (run_text (take i script) h.replies) (block_text block xs) h.written front)
 
-    cut_run : (end : Ended) → EndsBy (take i script ++ block ∷ []) (drop (i + 1) script) (h.replies ++ xs ∷ []) x v end → IsSharedRun s script (outsides a x t) (outsides c v d) p y end
+    cut_run : (end : Ended) → EndsBy (take i script ++ block ∷ []) (drop (i + 1) script) (h.replies ++ xs ∷ []) x v end → IsSharedRun e s script (outsides a x t) (outsides c v d) p y end
     cut_run end ends =
         let ran = run_more (take i script) h.replies r q a b c t.times u.times d.times p k y block xs h.ran asked g in
         let all : script ≡ (take i script ++ block ∷ []) ++ drop (i + 1) script = sym (take-append-drop (i + 1) script) ∙ ap (λ (bs : List (List Line)). bs ++ drop (i + 1) script) (next_blocks script i block there) in
         ended script (take i script ++ block ∷ []) (drop (i + 1) script) (h.replies ++ xs ∷ []) q a c x v t d d p y end all ran ends (asked_all (length (take i script ++ block ∷ [])) end t.times d.times ran.clock)
 
     -- the sink failed
-    pub cut_fault : Rose z.faults v.faults → IsSharedRun s script (outsides a x t) (outsides c v d) p y SinkFault
+    pub cut_fault : Rose z.faults v.faults → IsSharedRun e s script (outsides a x t) (outsides c v d) p y SinkFault
     cut_fault rose = cut_run SinkFault (cut_front, rose_on x.faults z.faults v.faults h.faults rose)
 
     -- memory was wanted for a text
-    pub cut_memory : IsSharedRun s script (outsides a x t) (outsides c v d) p y NoMemory
+    pub cut_memory : IsSharedRun e s script (outsides a x t) (outsides c v d) p y NoMemory
     cut_memory = cut_run NoMemory cut_front
 
   -- memory was wanted for a block
   pub stopped : (script : List (List Line)) (i : ℕ) (r : RosterView) (marked lacking : Bool) (a b : List SourceView) (t u d : ClockView) (p q : PassView) (x y : SinkView)
-      → WrittenSoFar s (take i script) r marked lacking a b t.times u.times p q x y → d.times ≡ option_map times_after u.times → IsSharedRun s script (outsides a x t) (outsides b y d) p q NoMemory
+      → WrittenSoFar e s (take i script) r marked lacking a b t.times u.times p q x y → d.times ≡ option_map times_after u.times → IsSharedRun e s script (outsides a x t) (outsides b y d) p q NoMemory
   stopped script i r marked lacking a b t u d p q x y h asked =
       ended script (take i script) (drop i script) h.replies r a b x y t u d p q NoMemory (sym (take-append-drop i script)) h.ran (front_all x.written y.written (run_text (take i script) h.replies) h.written)
       (record { asked = suc (length (take i script)); times = clock_more (length (take i script)) t.times u.times d.times h.ran.clock asked; once = inr (next (length (take i script)), refl) })
@@ -383,15 +443,15 @@ module _ (s : RunSetting) where
 
   -- a line was answered so that memory was wanted
   pub lacked : (script : List (List Line)) (i : ℕ) (r : RosterView) (marked lacking : Bool) (a b : List SourceView) (t u : ClockView) (p q : PassView) (x y : SinkView)
-      → WrittenSoFar s (take i script) r marked lacking a b t.times u.times p q x y → IsSharedRun s script (outsides a x t) (outsides b y u) p q NoMemory
+      → WrittenSoFar e s (take i script) r marked lacking a b t.times u.times p q x y → IsSharedRun e s script (outsides a x t) (outsides b y u) p q NoMemory
   lacked script i r marked lacking a b t u p q x y h =
       ended script (take i script) (drop i script) h.replies r a b x y t u u p q NoMemory (sym (take-append-drop i script)) h.ran (front_all x.written y.written (run_text (take i script) h.replies) h.written)
       (asked_all (length (take i script)) NoMemory t.times u.times h.ran.clock)
 
   pub finished : (script : List (List Line)) (i : ℕ) (r : RosterView) (marked lacking : Bool) (a b : List SourceView) (t u : ClockView) (p q : PassView) (x y : SinkView)
-      → i ≡ length script → lacking ≡ false → WrittenSoFar s (take i script) r marked lacking a b t.times u.times p q x y → IsSharedRun s script (outsides a x t) (outsides b y u) p q (Done marked)
-  finished script i r marked lacking a b t u p q x y e none h =
-      let k = subst (λ (bs : List (List Line)). WrittenSoFar s bs r marked lacking a b t.times u.times p q x y) (ap (λ (n : ℕ). take n script) e ∙ take-length script) h in
+      → i ≡ length script → lacking ≡ false → WrittenSoFar e s (take i script) r marked lacking a b t.times u.times p q x y → IsSharedRun e s script (outsides a x t) (outsides b y u) p q (Done marked)
+  finished script i r marked lacking a b t u p q x y is none h =
+      let k = subst (λ (bs : List (List Line)). WrittenSoFar e s bs r marked lacking a b t.times u.times p q x y) (ap (λ (n : ℕ). take n script) is ∙ take-length script) h in
       ended script script [] k.replies r a b x y t u u p q (Done marked) (sym (append-nil script)) k.ran (refl, k.written, k.marks, sym k.lacks ∙ none) (asked_all (length script) (Done marked) t.times u.times k.ran.clock)
 
 -- a block whose first line is no `mount` has none
@@ -414,11 +474,5 @@ no_mounts_in (m ∷ ls) l (inr single) is other =
 pub replies_length : (e : Cached) (c : CacheView) (w : ℕ) (r : RosterView) (block : List Line) (xs : List Reply) (before now : List SourceView) (p t : PassView) → BlockDid e c w r block xs before now p t → length xs ≡ length block
 replies_length e c w r block xs before now p t did = answered_length (e.tells && c.about.tells) e.blobs r (marks t.view.gone) block xs did.answered
 
-allowed_length : (s : RunSetting) (m : Mounts) (block before ls : List Line) (xs : List Reply) → AllowedFrom s m block before ls xs → length xs ≡ length ls
-allowed_length s m block before [] [] h = refl
-allowed_length s m block before [] (x ∷ xs) h = absurd h
-allowed_length s m block before (l ∷ ls) [] h = absurd h
-allowed_length s m block before (l ∷ ls) (x ∷ xs) h = ap suc (allowed_length s m block (before ++ l ∷ []) ls xs h.1)
-
-pub block_length : (s : RunSetting) (r q : RosterView) (block : List Line) (xs : List Reply) (before now : List SourceView) (p t : PassView) → BlockRan s r q block xs before now p t → length xs ≡ length block
-block_length s r q block xs before now p t h = allowed_length s (mounts_of r) block [] block xs h.allowed
+pub block_length : (e : Cached) (s : RunSetting) (r q : RosterView) (block : List Line) (xs : List Reply) (before now : List SourceView) (p t : PassView) → BlockRan e s r q block xs before now p t → length xs ≡ length block
+block_length e s r q block xs before now p t h = allowed_length s (mounts_of r) block [] block xs h.allowed

@@ -1,12 +1,12 @@
 -- What is counted worker by worker is what is counted of all lines.
-use Rattle.std.proofs.Common.{◌≡◌, ◌∙◌, ◌≢◌, ◌≤◌, ◌<◌, ◌+◌, ◌-◌, ◌^◌, ℕ, zero, suc, Bool, true, false, cond, List, [], ◌∷◌, length, sym, ap, refl, inl, inr, arith, mod-lt}
+use Rattle.std.proofs.Common.{◌≡◌, ◌∙◌, ◌≢◌, ◌≤◌, ◌<◌, ◌+◌, ◌-◌, ◌^◌, ℕ, zero, suc, Bool, true, false, cond, List, [], ◌∷◌, sym, ap, refl, inl, inr, arith, mod-lt}
 use Rattle.std.specs.Prelude.{◌==◌, ◌%◌, ◌||◌, count_by}
 use Rattle.std.specs.List.{list_any}
 use Rattle.std.proofs.lemmas.List.Sums.{sum_by-cons}
 use Rattle.std.proofs.lemmas.Bool.Decides.{eqb_tells}
 use Rattle.cache_reader.specs.Reports.{Grew}
 use Rattle.shared_run.specs.Shares.{share}
-use Rattle.shared_run.proofs.Shares.{other_is, same_is}
+use Rattle.shared_run.proofs.Shares.{other_is}
 
 -- c where m is one of the numbers i, i + 1, .., n of them
 abbrev hits : ℕ → ℕ → ℕ → ℕ → ℕ

@@ -7,7 +7,6 @@ use Rattle.std.proofs.lemmas.List.{map-append}
 use Rattle.std.proofs.lemmas.List.Folds.{list_any-append}
 use Rattle.std.proofs.lemmas.List.Sums.{sum_by-cons, sum_by-append}
 use Rattle.byte_text.specs.Counts.{Rose}
-use Rattle.blob_parts.specs.Takes.{Took}
 use Rattle.blob_parts.specs.Reading.{took_none}
 use Rattle.std.proofs.Math.Nat.{le_refl}
 use Rattle.cache_outside.specs.Sources.{SourceView}
@@ -25,10 +24,10 @@ use Rattle.mount_script.specs.declared.reply.Reply.{Reply}
 use Rattle.script_run.specs.Allowed.{faults_of, is_fault, is_memory, Bears}
 use Rattle.script_run.specs.Lines.{Cached}
 use Rattle.shared_run.specs.Blocks.{source_at, AllTook, BlockTook, BlockDid, JobsRan, WorkersRan}
-use Rattle.shared_run.specs.Dealt.{IsShare, AllDealt, without_shares}
-use Rattle.shared_run.specs.Gathered.{sum_of, lists_of, JoinedAll}
+use Rattle.shared_run.specs.Dealt.{IsShare, AllDealt}
+use Rattle.shared_run.specs.Gathered.{sum_of, lists_of}
 use Rattle.shared_run.specs.Shares.{share}
-use Rattle.shared_run.specs.Workers.{AllAnswered, LinesTook, LinesDid, PassRan, unmounted_by, is_decayed, is_cleared}
+use Rattle.shared_run.specs.Workers.{AllAnswered, LinesDid, unmounted_by, is_decayed, is_cleared}
 use Rattle.shared_run.proofs.LinesDone.{answered_grown}
 use Rattle.shared_run.proofs.Parts.{faults_are, answered_all, unmounted_some, unmounted_all}
 use Rattle.shared_run.proofs.Shares.{other_is}
@@ -390,6 +389,8 @@ module _ (e : Cached) (c : CacheView) (r : RosterView) (w : ℕ) (block : List L
         ∙ ap (λ (b : Bool). marks p.view.unmounted n || b) (block_unmounted n) ∙ or_swap (marks p.view.unmounted n) (unmounted_by r block replies n);
     decays = grew_reaches _ _ _ _ ran.joined.decays (reached (λ (k : Work). k.decays) is_decayed refl (λ ls xs x y h. h.decays));
     clears = grew_reaches _ _ _ _ ran.joined.clears (reached (λ (k : Work). k.clears) is_cleared refl (λ ls xs x y h. h.clears));
+    stored = ran.joined.stored.later;
+    turned = ran.joined.turned.later;
     took = block_took;
   }
     where

@@ -1,6 +1,6 @@
 -- A whole block, of what its workers did.
-use Rattle.std.proofs.Common.{◌≡◌, ◌∙◌, ◌≤◌, ◌<◌, ◌+◌, ℕ, zero, suc, Bool, true, false, List, [], ◌∷◌, ◌++◌, length, map, get_or, sym, ap, subst, refl, arith, add-zero, zero-add}
-use Rattle.std.specs.Prelude.{◌==◌, ◌||◌, ◌&&◌, Option, Some, None}
+use Rattle.std.proofs.Common.{◌≡◌, ◌∙◌, ◌≤◌, ◌<◌, ◌+◌, ℕ, zero, suc, Bool, true, false, List, [], ◌∷◌, length, get_or, sym, ap, refl, arith, add-zero, zero-add}
+use Rattle.std.specs.Prelude.{◌||◌, ◌&&◌, Option, Some, None}
 use Rattle.cache_outside.specs.Sources.{SourceView}
 use Rattle.cache_table.specs.Calls.{marks}
 use Rattle.cache_table.specs.Views.{CacheView, PassView}

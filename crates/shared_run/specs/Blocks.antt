@@ -1,5 +1,5 @@
 -- What a block of lines by several workers makes of the sources and of the pass.
-use Rattle.std.specs.Prelude.{ℕ, ◌≡◌, ◌≤◌, ◌+◌, ◌||◌, ◌&&◌, List, [], ◌∷◌, length, map, count_by, sum_by, slice_index_or, Bool, true, false, IsTrue, Option, Some, None}
+use Rattle.std.specs.Prelude.{ℕ, ◌≡◌, ◌≤◌, ◌+◌, ◌||◌, ◌&&◌, List, [], ◌∷◌, length, map, count_by, sum_by, slice_index_or, Bool, false, IsTrue, Option, Some, None}
 use Rattle.std.specs.List.{list_any}
 use Rattle.byte_text.specs.Counts.{Rose}
 use Rattle.blob_parts.specs.Takes.{Took}
@@ -38,8 +38,8 @@ AllTook [] [] [] = Unit {0}
 AllTook (a ∷ olds) (b ∷ news) (ps ∷ pss) = Took a.reads b.reads ps × AllTook olds news pss
 AllTook _ _ _ = ⊥
 
--- The places of the bytes that were taken from the sources. Where no source's count of failures rose and no line wanted memory, they are olds
--- many olds the counts of the pass's work say.
+-- The places of the bytes that were taken from the sources. Where no source's count of failures rose and no line wanted memory, they are as
+-- many as the counts of the pass's work say.
 pub record BlockTook (range : ℕ) (lacks : Bool) (olds news : List SourceView) (p q : PassView) : Type 0 where
   pub places : List (List (ℕ × ℕ))
   pub took : AllTook olds news places
@@ -56,6 +56,8 @@ pub record BlockDid (e : Cached) (c : CacheView) (workers : ℕ) (r : RosterView
   pub unmounted : (n : ℕ) → marks q.view.unmounted n ≡ (unmounted_by r block replies n || marks p.view.unmounted n)
   pub decays : Grew p.work.decays q.work.decays (count_by is_decayed replies)
   pub clears : Grew p.work.clears q.work.clears (count_by is_cleared replies)
+  pub stored : p.work.stored ≤ q.work.stored
+  pub turned : p.work.turned_away ≤ q.work.turned_away
   pub took : IsTrue e.tells → BlockTook e.config.range (list_any is_memory replies) olds news p q
 
 -- ---- its workers

@@ -4,4 +4,3 @@ pub mod Dealt
 pub mod Gathered
 pub mod Blocks
 pub mod Runs
-pub mod Between

@@ -1,5 +1,6 @@
 //! The lines of a block that one worker runs.
-ghost use Rattle.std.specs.Prelude.{◌≡◌, ◌<◌, ◌≤◌, ◌+◌, ◌++◌, ◌∷◌, ◌&&◌, [], false, codes, length, vec_len, vec_capacity};
+ghost use Rattle.std.specs.Prelude.{◌≡◌, ◌<◌, ◌≤◌, ◌+◌, ◌++◌, ◌∷◌, ◌&&◌, [], false, codes, length, vec_len};
+ghost use Rattle.std.specs.Prelude.{vec_capacity};
 ghost use Rattle.region_ranges.specs.Keys.{IsConfig};
 ghost use Rattle.blob_parts.specs.Takes.{SourceLater};
 ghost use Rattle.index_mounts.specs.Rosters.{mounted};
@@ -10,6 +11,7 @@ ghost use Rattle.cache_door.specs.Doors.{nothing};
 ghost use Rattle.cache_reader.specs.Going.{moment};
 ghost use Rattle.script_run.specs.Lines.{cached, is_mount, IsAnswer, IsMarked, IsOrNoMemory};
 ghost use Rattle.script_run.specs.Blocks.{NoMounts};
+ghost use Rattle.script_run.specs.Shelves.{ShelvesFit};
 ghost use Rattle.shared_run.specs.Shares.{share};
 ghost use Rattle.shared_run.specs.Workers.{ReplyKind, LineWorks, LinesDid};
 
@@ -20,7 +22,7 @@ use cache_outside::{Archive, BlobSource};
 use index_mounts::Roster;
 use mount_script::{Command, Line, Reply};
 use region_ranges::Config;
-use script_run::run_line;
+use script_run::{Shelves, run_line};
 use std::alloc::Global;
 
 /// Puts a reply behind the others, where there is room.
@@ -67,6 +69,7 @@ fn worker_line<A: Archive, D: CacheDoor<A>, S: BlobSource<A>>(
     door: &mut D,
     source: &mut S,
     roster: &Roster<A>,
+    shelves: &mut Shelves,
     config: &Config,
     command: &Command,
     now: u64,
@@ -75,11 +78,13 @@ fn worker_line<A: Archive, D: CacheDoor<A>, S: BlobSource<A>>(
     requires setting { (D.view door.old).config ≡ config.now }
     requires limits { IsConfig config.now }
     requires no_mount { is_mount command.now ≡ false }
+    requires shelves { ShelvesFit (A.tells && (D.view door.old).frames_tell) A.blobs roster.now shelves.old }
     ensures reply { IsAnswer (A.tells && (D.view door.old).frames_tell)
         (expected_reply A.blobs (mounts_of roster.now) command.now) result }
     ensures mark { IsMarked command.now (mounted (used_name command.now) roster.now)
         (moment (S.view source.old) (D.view door.old)) (moment (S.view source.new) (D.view door.new)) result }
     ensures kind { ReplyKind command.now (mounted (used_name command.now) roster.now) result }
+    ensures shelves { ShelvesFit (A.tells && (D.view door.old).frames_tell) A.blobs roster.now shelves.new }
     ensures stays { D.stays door.old door.new }
     ensures hold { (D.view door.new).hold ≡ nothing }
     ensures source { SourceLater (S.view source.old) (S.view source.new) (result ≡ reply.Fault) }
@@ -89,11 +94,12 @@ fn worker_line<A: Archive, D: CacheDoor<A>, S: BlobSource<A>>(
     if matches!(command, Command::Stats) {
         return refused_stats(alloc);
     }
-    let answer = run_line(alloc, door, source, roster, config, command, now);
+    let answer = run_line(alloc, door, source, roster, shelves, config, command, now);
     answer.reply
 }
 
-/// Runs a worker's lines in order, through its door and on its source. The gate is told of each.
+/// Runs a worker's lines in order, through its door and on its source. The dictionaries of the mounts that it searches
+/// are kept from line to line. The gate is told of each line.
 pub(crate) fn run_share<A: Archive, D: CacheDoor<A>, S: BlobSource<A>, G: Gate>(
     alloc: Global,
     door: &mut D,
@@ -121,10 +127,20 @@ pub(crate) fn run_share<A: Archive, D: CacheDoor<A>, S: BlobSource<A>, G: Gate>(
     ensures stays { D.stays door.old door.new }
     ensures hold { (D.view door.new).hold ≡ nothing }
 {
+    let mut shelves = Shelves::new(alloc);
     for k in 0..block.len() {
         if k % workers == worker {
             let line = &block[k];
-            let reply = worker_line(alloc, door, source, roster, config, &line.command, now);
+            let reply = worker_line(
+                alloc,
+                door,
+                source,
+                roster,
+                &mut shelves,
+                config,
+                &line.command,
+                now,
+            );
             put(replies, reply);
             gate.answered(worker as u32, line.number);
         }

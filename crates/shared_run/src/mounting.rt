@@ -41,6 +41,8 @@ pub(crate) fn mount_between<R: Wait, A: Archive + Drop, F: Frame + Drop, S: Blob
     ensures unmounted { (n : ℕ) → marks pass.new.view.unmounted n ≡ marks pass.old.view.unmounted n }
     ensures decays { Grew pass.old.work.decays pass.new.work.decays 0 }
     ensures clears { Grew pass.old.work.clears pass.new.work.clears 0 }
+    ensures stored { Grew pass.old.work.stored pass.new.work.stored 0 }
+    ensures turned { Grew pass.old.work.turned_away pass.new.work.turned_away 0 }
 {
     let share = cache.split(pass);
     let mut door = TableDoor::new(rt, cache, share);

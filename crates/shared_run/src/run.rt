@@ -3,6 +3,7 @@ ghost use Rattle.std.specs.Prelude.{◌≡◌, ◌≤◌, ◌&&◌, ℕ, true, f
 ghost use Rattle.region_ranges.specs.Keys.{IsConfig};
 ghost use Rattle.cache_table.specs.Calls.{marks};
 ghost use Rattle.script_run.specs.Blocks.{IsBlock, WasRead};
+ghost use Rattle.script_run.specs.Lines.{cached};
 ghost use Rattle.shared_run.specs.Blocks.{several};
 ghost use Rattle.shared_run.specs.Runs.{BlockRan, IsSharedRun, NoneGone, outsides};
 ghost use Rattle.shared_run.specs.Workers.{IsIdle};
@@ -48,7 +49,7 @@ fn next_block<
     requires setting { (cache.now.about.config ≡ config.now) × IsConfig config.now }
     requires block { IsBlock block.now }
     requires none { NoneGone roster.old pass.old }
-    ensures ran { IfOk result (λ v. BlockRan
+    ensures ran { IfOk result (λ v. BlockRan (cached A.tells A.blobs config.now)
         (several (A.tells && cache.now.about.tells) A.blobs workers config.now.regions) roster.old roster.new block.now
         v.items (map S.view sources.old.items) (map S.view sources.new.items) pass.old pass.new) }
     ensures memory { IsErr result →
@@ -86,6 +87,10 @@ fn next_block<
 /// memory is wanted for a block, or for the text of its replies, or where the sink fails; then a front of the text is
 /// written.
 ///
+/// Where the archive tells, no source's count of failures rose and no line wanted memory, all sources took at least as
+/// many bytes of parts as the pass's count `stored` rose by, and above it at most twice the range for each one by which
+/// `turned_away` rose, while both are below their last value.
+///
 /// After every answer the sources are the same ones in the same order, and the pass has its shares and holds nothing.
 pub fn run_shared<
     R: Threads + Wait + Sync,
@@ -114,7 +119,8 @@ pub fn run_shared<
     requires whole { pass.old.view.shares ≡ 64 }
     requires unmounted { (m : ℕ) → marks pass.old.view.unmounted m ≡ false }
     requires setting { (cache.now.about.config ≡ config.now) × IsConfig config.now }
-    ensures run { IsSharedRun (several (A.tells && cache.now.about.tells) A.blobs workers config.now.regions) script.now
+    ensures run { IsSharedRun (cached A.tells A.blobs config.now)
+        (several (A.tells && cache.now.about.tells) A.blobs workers config.now.regions) script.now
         (outsides (map S.view sources.old.items) (K.view sink.old) (C.view clock.old))
         (outsides (map S.view sources.new.items) (K.view sink.new) (C.view clock.new)) pass.old pass.new result }
     ensures others { drop workers sources.new.items ≡ drop workers sources.old.items }

@@ -1,9 +1,7 @@
-use Rattle.std.proofs.Common.{arith, rules, ◌≡◌, ◌∙◌, ◌≤◌, ◌<◌, ◌++◌, [], ℕ, List, length, map, take, drop, get_or, sym, ap, subst}
-use Rattle.std.specs.Prelude.{◌&&◌}
-use Rattle.std.specs.Vec.Iter.{into_iter_items, into_iter_len}
+use Rattle.std.proofs.Common.{arith, rules, ◌≡◌, ◌∙◌, ◌<◌, ◌++◌, [], ℕ, List, length, map, take, drop, get_or, sym, ap, subst}
+use Rattle.std.specs.Vec.Iter.{into_iter_items}
 use Rattle.std.proofs.lemmas.List.{map-append, take-append-drop}
 use Rattle.cache_outside.specs.Sources.{SourceView}
-use Rattle.mount_script.specs.declared.reply.Reply.{Reply}
 use Rattle.script_run.specs.Lines.{cached}
 use Rattle.shared_run.specs.Blocks.{BlockDid}
 use Rattle.shared_run.specs.Shares.{share}

@@ -1,8 +1,7 @@
-use Rattle.std.proofs.Common.{arith, ◌≡◌, ◌∙◌, ◌<◌, ◌≤◌, ◌+◌, ◌++◌, ◌∷◌, [], ℕ, List, length, map, set, get_or, sym, ap, subst, refl, mod-lt}
+use Rattle.std.proofs.Common.{arith, ◌≡◌, ◌∙◌, ◌<◌, ◌+◌, ◌∷◌, [], ℕ, length, map, get_or, sym, ap, mod-lt}
 use Rattle.std.specs.Prelude.{◌%◌}
 use Rattle.std.specs.Vec.Iter.{into_iter_items, into_iter_len}
-use Rattle.std.proofs.lemmas.List.{length-append, length-map, length-set}
-use Rattle.mount_script.specs.declared.reply.Reply.{Reply}
+use Rattle.std.proofs.lemmas.List.{length-append, length-set}
 use Rattle.shared_run.proofs.Queues.{split_next, split_all, map_at, short_of}
 use Rattle.shared_run.proofs.gather.in_order.Goals as goal
 

@@ -3,9 +3,6 @@ use Rattle.std.specs.Prelude.{◌||◌}
 use Rattle.cache_table.specs.Calls.{marks}
 use Rattle.script_run.proofs.Blocks.{does_live}
 use Rattle.shared_run.proofs.Together.{marks_both}
-use Rattle.shared_run.proofs.Runs.{block_ran}
-use Rattle.shared_run.proofs.Jobs.{map_map}
-use Rattle.shared_run.proofs.Between.{kept_between}
 use Rattle.shared_run.proofs.mounting.mount_between.Goals as goal
 
 or_none : (b : Bool) → (b || false) ≡ b

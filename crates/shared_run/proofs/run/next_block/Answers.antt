@@ -1,6 +1,5 @@
-use Rattle.std.proofs.Common.{arith, ◌≡◌, ◌∙◌, ◌<◌, ◌++◌, ◌∷◌, [], ℕ, Bool, false, List, length, map, set, sym, ap, subst}
+use Rattle.std.proofs.Common.{arith, ◌≡◌, ◌∙◌, ◌<◌, ◌++◌, ◌∷◌, [], false, List, length, map, set, sym, ap, subst}
 use Rattle.std.proofs.lemmas.List.{length-map}
-use Rattle.cache_outside.specs.Sources.{SourceView}
 use Rattle.mount_script.specs.declared.command.Line.{Line}
 use Rattle.mount_script.specs.declared.reply.Reply.{Reply}
 use Rattle.script_run.specs.Blocks.{Forgotten}
@@ -21,11 +20,11 @@ returns-in-Mount-clause-ran g c =
     let some : 0 < length sources = omega (arith, c.requires.workers.0, c.requires.workers.2) in
     let command = ap (λ (n : Line). n.command) c.index-block-0.is ∙ c.in-Mount.is in
     let single : is_shared l.command ≡ false = ap is_shared command in
-    mount_ran g.A.Archive.tells c.args.cache.now.about.tells g.A.Archive.blobs c.args.workers c.args.config.now.regions c.args.block.now l _ _ c.args.roster.now c.mount_between-reply.new.roster
+    mount_ran g.A.Archive.tells c.args.cache.now.about.tells g.A.Archive.blobs c.args.config.now c.args.workers c.args.config.now.regions c.args.block.now l _ _ c.args.roster.now c.mount_between-reply.new.roster
     x c.put.new.replies.items before (map view (set sources 0 c.mount_between-reply.new.source)) (view c.index_mut-source.result.now) (view c.mount_between-reply.new.source) c.args.pass.now c.mount_between-reply.new.pass
     (block_single c.args.block.now l c.requires.block c.index-block-0.is single) command (c.put.ensures.items ∙ ap (λ (xs : List Reply). xs ++ x ∷ []) c.in_ok-replies.ensures.items)
     (omega (arith, some, length-map sources view)) (ap view c.index_mut-source.ensures.value ∙ sym (map_at view sources 0 c.index_mut-source.result.now _ some)) (map_set view sources 0 c.mount_between-reply.new.source)
-    (omega (arith, c.requires.workers.0)) c.requires.none told.reply told.kind told.roster told.source told.unmounted told.decays told.clears
+    (omega (arith, c.requires.workers.0)) c.requires.none told.reply told.kind told.roster told.source told.unmounted told.decays told.clears told.stored told.turned
 
 pub run_block-requires-clause-lines : goal.run_block-requires-clause-lines
 run_block-requires-clause-lines g c κs within = no_mounts_in c.args.block.now c.index-block-0.result c.requires.block c.index-block-0.is (λ name manifest e. c.in_default.not-Mount name manifest (sym (ap (λ (n : Line). n.command) c.index-block-0.is) ∙ e))
