@@ -1,6 +1,6 @@
 -- Which words are taken on.
 use Rattle.std.proofs.Common.{◌≡◌, ℕ, ◌<◌, ◌≤◌, ◌&&◌, Bool, true, false, refl, sym, ap, ◌∙◌, arith}
-use Rattle.std.specs.Prelude.{Option, Some, None, nat_lt, nat_le, not, ◌||◌}
+use Rattle.std.specs.Prelude.{Option, Some, None, nat_lt, nat_le}
 use Rattle.std.proofs.lemmas.Bool.{false≢true}
 use Rattle.std.proofs.lemmas.Bool.Decides.{nat_tests}
 use Rattle.run_setup.specs.declared.settings.RunSettings.{RunSettings}
@@ -28,10 +28,10 @@ pub run_taken : (sources : ℕ) (c : Option Command) (s : RunSettings) → c ≡
 run_taken sources c s is alone some =
     let one : nat_lt 1 s.workers ≡ false = sym (ap asks is) ∙ alone in
     let e : nat_le s.workers sources ≡ true = grind (arith, nat_tests) in
-    rw (is, e, one) refl
+    rw (is, e) refl
 
-pub make_taken : (sources : ℕ) (c : Option Command) (m : MakeSettings) → c ≡ Some (make m) → asks c ≡ false → taken_on sources c ≡ Some (make m)
-make_taken sources c m is alone = let one : nat_lt 1 m.run.workers ≡ false = sym (ap asks is) ∙ alone in rw (is, one) refl
+pub make_taken : (sources : ℕ) (c : Option Command) (m : MakeSettings) → c ≡ Some (make m) → taken_on sources c ≡ Some (make m)
+make_taken sources c m is = rw is refl
 
 pub term_untaken : (t : Term) → taken_on 0 (Some (term t)) ≡ None
 term_untaken t = refl
@@ -42,13 +42,26 @@ run_untaken s is =
     let e : nat_le s.workers 0 ≡ false = grind (arith, nat_tests) in
     rw e refl
 
-or_true : (a : Bool) → (a || true) ≡ true
-or_true true = refl
-or_true false = refl
+-- a script by several workers, with enough sources
+pub shared_taken : (sources : ℕ) (c : Option Command) (s : RunSettings) → c ≡ Some (run s) → s.workers ≤ sources → taken_on sources c ≡ Some (run s)
+shared_taken sources c s is enough = let e : nat_le s.workers sources ≡ true = grind (arith, nat_tests) in rw (is, e) refl
 
--- words that ask for threads are refused
-pub threads_refused : (sources : ℕ) (c : Option Command) → asks c ≡ true → refuses sources c ≡ true
-threads_refused sources c is = rw is (or_true _)
+pub few_refused : (sources : ℕ) (c : Option Command) (s : RunSettings) → c ≡ Some (run s) → sources < s.workers → refuses sources c ≡ true
+few_refused sources c s is few = let e : nat_le s.workers sources ≡ false = grind (arith, nat_tests) in rw (is, e) refl
 
-pub threads_untaken : (sources : ℕ) (c : Option Command) → asks c ≡ true → taken_on sources c ≡ None
-threads_untaken sources c is = rw (threads_refused sources c is) refl
+pub refused_untaken : (sources : ℕ) (c : Option Command) → refuses sources c ≡ true → taken_on sources c ≡ None
+refused_untaken sources c is = rw is refl
+
+-- a script by one worker
+pub one_worker : (c : Option Command) (s : RunSettings) → c ≡ Some (run s) → asks c ≡ false → s.workers ≤ 1
+one_worker c s is alone = let one : nat_lt 1 s.workers ≡ false = sym (ap asks is) ∙ alone in grind (arith, nat_tests)
+
+-- an archive that is made, by one worker or by several
+pub one_worker_makes : (c : Option Command) (m : MakeSettings) → c ≡ Some (make m) → asks c ≡ false → m.run.workers ≤ 1
+one_worker_makes c m is alone = let one : nat_lt 1 m.run.workers ≡ false = sym (ap asks is) ∙ alone in grind (arith, nat_tests)
+
+pub several_make : (c : Option Command) (m : MakeSettings) → c ≡ Some (make m) → asks c ≡ true → 1 < m.run.workers
+several_make c m is some = let one : nat_lt 1 m.run.workers ≡ true = sym (ap asks is) ∙ some in grind (arith, nat_tests)
+
+pub two_workers : (c : Option Command) (s : RunSettings) → c ≡ Some (run s) → asks c ≡ true → 1 < s.workers
+two_workers c s is some = let one : nat_lt 1 s.workers ≡ true = sym (ap asks is) ∙ some in grind (arith, nat_tests)

@@ -1,5 +1,5 @@
 -- A reply with hits or a refusal that is the wanted one is allowed.
-use Rattle.std.proofs.Common.{◌≡◌, ℕ, ◌∙◌, Bool}
+use Rattle.std.proofs.Common.{◌≡◌, ℕ, Bool}
 use Rattle.std.specs.Prelude.{IsTrue}
 use Rattle.mount_script.specs.declared.reply.Reply.{Reply}
 use Rattle.mount_script.specs.declared.reply.Reply.TheVariants.{Mounted, Unmounted, Cleared, Decayed, Hits, Fields, Bytes, Stats, Refused, Fault, Gone, NoMemory}

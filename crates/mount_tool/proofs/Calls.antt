@@ -1,6 +1,8 @@
 -- A whole call, by what it did with its first source.
-use Rattle.std.proofs.Common.{◌≡◌, ℕ, ◌<◌, List, [], ◌∷◌, length, map, get_or, set, Bool, true, false, refl, ap, sym, subst, ◌∙◌, arith}
-use Rattle.std.specs.Prelude.{Option, Some, None}
+use Rattle.std.proofs.Common.{◌≡◌, ℕ, ◌<◌, ◌≤◌, max, List, [], ◌∷◌, length, map, get_or, set, Bool, true, false, refl, ap, subst, ◌∙◌, arith}
+use Rattle.std.specs.Prelude.{Option, Some, None, option_map}
+use Rattle.run_setup.specs.Asked.{view_of}
+use Rattle.run_setup.specs.declared.asked.Asked.{Asked}
 use Rattle.std.proofs.lemmas.List.{length-map}
 use Rattle.cache_outside.specs.Listing.{Listing}
 use Rattle.cache_outside.specs.Sources.{SourceView}
@@ -10,15 +12,14 @@ use Rattle.cache_outside.specs.Sinks.{SinkView}
 use Rattle.cache_outside.specs.Clocks.{ClockView}
 use Rattle.run_setup.specs.declared.settings.RunSettings.{RunSettings}
 use Rattle.run_setup.specs.declared.make_settings.MakeSettings.{MakeSettings}
-use Rattle.run_setup.specs.Settings.{in_limits}
 use Rattle.run_setup.specs.Words.{Command, Term, term, run, make, command, asks}
 use Rattle.mount_tool.specs.Replies.{usage_text}
 use Rattle.mount_tool.specs.Runs.{IsNoted, IsTermRun}
 use Rattle.mount_tool.specs.Makes.{IsMakeRun}
-use Rattle.mount_tool.specs.Calls.{World, world, OnlyWrote, IsScriptRun, CallEnds, IsCall, is_refused, refuses, taken_on, MakeIsWhole}
+use Rattle.mount_tool.specs.Calls.{World, world, IsScriptRun, CallEnds, IsCall, is_refused, refuses, taken_on, readers, MakeIsWhole}
 use Rattle.mount_tool.proofs.Usage.{only_refused}
 use Rattle.mount_tool.proofs.Makes.{run_whole}
-use Rattle.mount_tool.proofs.Accepted.{none_taken, term_taken, run_taken, make_taken, term_untaken, run_untaken, threads_untaken, threads_refused}
+use Rattle.mount_tool.proofs.Accepted.{term_taken, run_taken, make_taken, shared_taken, one_worker, two_workers}
 
 -- `usage` was written
 pub refused_call : (tells : Bool) (blobs : Listing) (words : List (List ℕ)) (sources : List SourceView) (text : TextView) (m : MakerView) (k l : SinkView) (c : ClockView) (status : ℕ)
@@ -61,10 +62,10 @@ run_call view (x ∷ xs) a b tells blobs words text now m n k l c d s status som
 
 -- an archive was made, and nothing of the sources was asked
 pub make_call : (sources : List SourceView) (tells : Bool) (blobs : Listing) (words : List (List ℕ)) (text : TextView) (m n : MakerView) (k l : SinkView) (c d : ClockView) (s : MakeSettings) (status : ℕ)
-    → command words ≡ Some (make s) → asks (command words) ≡ false → IsMakeRun s m.faults n.faults k l c d status
+    → command words ≡ Some (make s) → IsMakeRun s m.faults n.faults k l c d status
     → IsCall tells blobs words (world text m k c sources) (world text n l d sources) status
-make_call sources tells blobs words text m n k l c d s status is alone h =
-    rw (make_taken (length sources) (command words) s is alone) (h, refl, refl)
+make_call sources tells blobs words text m n k l c d s status is h =
+    rw (make_taken (length sources) (command words) s is) (h, refl, refl)
 
 -- the first source is still the same
 pub same_identity : {S : Type 0} (view : S → SourceView) (sources : List S) (a b : S) → 0 < length sources → a ≡ get_or sources 0 a → (view b).identity ≡ (view a).identity
@@ -84,3 +85,31 @@ pub make_is_whole : MakeIsWhole
 make_is_whole tells blobs words m x y status is call frames sink =
     let h : CallEnds tells blobs (Some (make m)) x y status = subst (λ c. CallEnds tells blobs c x y status) is call in
     run_whole m _ _ _ _ _ _ status h.0 frames sink
+
+-- a script was run by several workers
+pub shared_call : {S : Type 0} (view : S → SourceView) (olds news : List S) (tells : Bool) (blobs : Listing) (words : List (List ℕ)) (text now : TextView) (m n : MakerView) (k l : SinkView) (c d : ClockView) (s : RunSettings) (status : ℕ)
+    → command words ≡ Some (run s) → s.workers ≤ length olds → IsScriptRun tells blobs s (world text m k c (map view olds)) (world now n l d (map view news)) status
+    → IsCall tells blobs words (world text m k c (map view olds)) (world now n l d (map view news)) status
+shared_call view olds news tells blobs words text now m n k l c d s status is enough h =
+    rw (shared_taken (length (map view olds)) (command words) s is (omega (arith, enough, length-map olds view))) h
+
+-- who reads
+pub readers_alone : (c : Option Command) → asks c ≡ false → readers c ≡ 1
+readers_alone None h = refl
+readers_alone (Some (term t)) h = refl
+readers_alone (Some (make m)) h = refl
+readers_alone (Some (run s)) h = let few = one_worker (Some (run s)) s refl h in omega (arith, few)
+
+pub readers_shared : (c : Option Command) (s : RunSettings) → c ≡ Some (run s) → asks c ≡ true → readers c ≡ s.workers
+readers_shared c s is h = let many = two_workers c s is h in ap readers is ∙ most s.workers many
+  where
+    most : (n : ℕ) → 1 < n → max 1 n ≡ n
+    most n h = omega (arith, h)
+
+-- an archive that is made reads no source that was handed in
+pub readers_make : (c : Option Command) (m : MakeSettings) → c ≡ Some (make m) → readers c ≡ 1
+readers_make c m is = ap readers is
+
+-- words that ask for several workers are of a script or of what is made
+pub asked_none : (o : Option Asked) → o ≡ None → asks (option_map view_of o) ≡ true → ⊥
+asked_none o is h = absurd (cc)

@@ -6,3 +6,4 @@ pub mod Ends
 pub mod Cores
 pub mod Makes
 pub mod Calls
+pub mod Complete

@@ -1,5 +1,5 @@
 -- Status 2 comes only where the words are refused.
-use Rattle.std.proofs.Common.{◌≡◌, ℕ, List, Bool, true, false, refl, sym, ◌∙◌, ◌⊎◌, inl, inr, arith}
+use Rattle.std.proofs.Common.{◌≡◌, ℕ, Bool, true, false, refl, sym, ◌∙◌, ◌⊎◌, inl, inr, arith}
 use Rattle.std.specs.Prelude.{Option, Some, None, if◌then◌else◌}
 use Rattle.cache_outside.specs.Listing.{Listing}
 use Rattle.mount_script.specs.declared.reply.Reply.{Reply}
@@ -8,13 +8,12 @@ use Rattle.cache_outside.specs.Clocks.{ClockView}
 use Rattle.cache_outside.specs.Sinks.{SinkView}
 use Rattle.run_setup.specs.declared.settings.RunSettings.{RunSettings}
 use Rattle.run_setup.specs.declared.make_settings.MakeSettings.{MakeSettings}
-use Rattle.run_setup.specs.Words.{Command, Term, term, run, make}
+use Rattle.run_setup.specs.Words.{Command, term, run, make}
 use Rattle.script_run.specs.declared.ended.Ended.{Ended}
 use Rattle.script_run.specs.declared.ended.Ended.TheVariants as ended
 use Rattle.mount_tool.specs.Replies.{status_of, run_status}
-use Rattle.mount_tool.specs.Runs.{IsTermRun}
-use Rattle.mount_tool.specs.Makes.{MakeEnding, without_frames, without_room, searched, MakeEnds, SearchesEnd, IsMakeRun}
-use Rattle.mount_tool.specs.Calls.{World, RunEnding, unread, no_script, no_frame, no_room, ran, RunEnds, IsScriptRun, CallEnds, refuses, taken_on}
+use Rattle.mount_tool.specs.Makes.{MakeEnding, without_frames, without_room, searched, searched_by_several, MakeEnds, SearchesEnd}
+use Rattle.mount_tool.specs.Calls.{World, RunEnding, unread, no_script, no_frame, no_room, ran, shared, RunEnds, CallEnds, refuses, taken_on}
 
 reply_status : (r : Reply) → status_of r ≡ 2 → ⊥
 reply_status (Mounted files docs) e = omega (arith, e)
@@ -51,6 +50,7 @@ run_ends tells blobs s x y (no_script t e) status h two = noted_status _ _ statu
 run_ends tells blobs s x y (no_frame t blocks) status h two = let f = h.1 in omega (arith, f, two)
 run_ends tells blobs s x y no_room status h two = let f = h.0 in omega (arith, f, two)
 run_ends tells blobs s x y (ran t blocks told numbers ended) status h two = ended_status ended (sym h.1 ∙ two)
+run_ends tells blobs s x y (shared t blocks told first last ended) status h two = ended_status ended (sym h.1 ∙ two)
 
 zero_status : (own : ℕ) → own ≡ 0 → own ≡ 2 → ⊥
 zero_status own zero two = omega (arith, zero, two)
@@ -64,6 +64,7 @@ make_ends : (m : MakeSettings) (faults now : ℕ) (k l : SinkView) (c d : ClockV
 make_ends m faults now k l c d without_frames status h two = let f = h.0 in omega (arith, f, two)
 make_ends m faults now k l c d without_room status h two = let f = h.0 in omega (arith, f, two)
 make_ends m faults now k l c d (searched a b numbers ended total sum) status h two = searches_end m k l total sum ended status h.3 two
+make_ends m faults now k l c d (searched_by_several a b first last ended total sum) status h two = searches_end m k l total sum ended status h.3 two
 
 chosen : (b : Bool) (c : Command) → (if b then None else Some c) ≡ None → b ≡ true
 chosen true c e = refl

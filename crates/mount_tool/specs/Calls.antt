@@ -1,5 +1,5 @@
 -- A call of the program: how it may end, and what holds then.
-use Rattle.std.specs.Prelude.{ℕ, ◌≡◌, ◌&&◌, ◌||◌, List, [], ◌∷◌, length, Bool, true, not, IsTrue, Option, Some, None, Ok, Err, if◌then◌else◌}
+use Rattle.std.specs.Prelude.{ℕ, ◌≡◌, ◌&&◌, List, [], ◌∷◌, length, Bool, true, not, IsTrue, Option, Some, None, Ok, Err, if◌then◌else◌, max, ◌≤◌, ◌<◌}
 use Rattle.byte_text.specs.Counts.{Rose}
 use Rattle.cache_outside.specs.Listing.{Listing}
 use Rattle.cache_outside.specs.Sources.{SourceView}
@@ -13,11 +13,16 @@ use Rattle.mount_script.specs.declared.error.ScriptError.{ScriptError}
 use Rattle.run_setup.specs.declared.settings.RunSettings.{RunSettings}
 use Rattle.run_setup.specs.declared.make_settings.MakeSettings.{MakeSettings}
 use Rattle.run_setup.specs.Texts.{IsRead}
-use Rattle.run_setup.specs.Words.{Command, term, run, make, command, has_sources, asks}
+use Rattle.run_setup.specs.Words.{Command, term, run, make, command, has_sources}
+use Rattle.run_setup.specs.Settings.{config_of}
 use Rattle.script_run.specs.Blocks.{alone}
 use Rattle.script_run.specs.Counters.{CoreNumbers}
 use Rattle.script_run.specs.Runs.{IsRun, outside}
 use Rattle.script_run.specs.declared.ended.Ended.{Ended}
+use Rattle.cache_table.specs.Views.{PassView}
+use Rattle.script_run.specs.Lines.{cached}
+use Rattle.shared_run.specs.Blocks.{several}
+use Rattle.shared_run.specs.Runs.{IsSharedRun, outsides}
 use Rattle.mount_tool.specs.Replies.{usage_text, error_text, run_status}
 use Rattle.mount_tool.specs.Runs.{IsNoted, IsTermRun}
 use Rattle.mount_tool.specs.Makes.{IsMakeRun, IsMade}
@@ -61,7 +66,8 @@ pub data RunEnding : Type 0 where
   no_script : List ℕ → ScriptError → RunEnding  -- this text is no script
   no_frame : List ℕ → List (List Line) → RunEnding  -- the maker of frames failed
   no_room : RunEnding  -- memory was wanted before the first block
-  ran : List ℕ → List (List Line) → Bool → CoreNumbers → Ended → RunEnding  -- the script ran, over frames of which it is known whether they tell
+  ran : List ℕ → List (List Line) → Bool → CoreNumbers → Ended → RunEnding  -- one worker ran the script, over frames of which it is known whether they tell
+  shared : List ℕ → List (List Line) → Bool → PassView → PassView → Ended → RunEnding  -- several workers did, through a cache that they share
 
 -- the text was read to its end, or to the first byte that a script may not have, and is the script of these blocks
 abbrev pub IsScriptText : World → List ℕ → List (List Line) → Type 0
@@ -78,17 +84,28 @@ RunEnds tells blobs s x y (ran t blocks told numbers ended) status =
     IsScriptText x t blocks × (status ≡ run_status ended) × (IsTrue x.maker.tells → told ≡ true)
     × IsRun (alone (tells && told) blobs s.regions) blocks
     (outside (first_source x.sources) x.sink x.clock) (outside (first_source y.sources) y.sink y.clock) numbers ended
+    × (s.workers ≤ 1)
+RunEnds tells blobs s x y (shared t blocks told first last ended) status =
+    IsScriptText x t blocks × (status ≡ run_status ended) × (IsTrue x.maker.tells → told ≡ true)
+    × IsSharedRun (cached tells blobs (config_of s)) (several (tells && told) blobs s.workers s.regions) blocks
+    (outsides x.sources x.sink x.clock) (outsides y.sources y.sink y.clock) first last ended
+    × (1 < s.workers)
 
--- a run of a script by one worker: how it ended, and what holds of that ending
+-- a run of a script: how it ended, and what holds of that ending
 pub record IsScriptRun (tells : Bool) (blobs : Listing) (s : RunSettings) (x y : World) (status : ℕ) : Type 0 where
   pub ending : RunEnding
   pub ends : RunEnds tells blobs s x y ending status
 
 -- ---- the whole call
 
--- the words are not in form, or there are too few sources; and, until several workers run scripts, words that ask for them
+-- the words are not in form, or there are too few sources
 abbrev pub refuses : ℕ → Option Command → Bool
-refuses sources c = not (has_sources sources c) || asks c
+refuses sources c = not (has_sources sources c)
+
+-- how many sources are read at most: as many as workers run a script, and else the first
+abbrev pub readers : Option Command → ℕ
+readers (Some (run s)) = max 1 s.workers
+readers _ = 1
 
 abbrev pub is_refused : List (List ℕ) → ℕ → Bool
 is_refused words sources = refuses sources (command words)

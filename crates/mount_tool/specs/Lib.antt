@@ -4,3 +4,4 @@ pub mod Runs
 pub mod Makes
 pub mod Calls
 pub mod Steps
+pub mod Complete

@@ -1,5 +1,5 @@
 -- The command `make`: what is made of a number is searched, and one line says what there is and what was found.
-use Rattle.std.specs.Prelude.{ℕ, ◌≡◌, ◌⊎◌, List, [], ◌++◌, length, false, codes}
+use Rattle.std.specs.Prelude.{ℕ, ◌≡◌, ◌≤◌, ◌<◌, ◌⊎◌, List, [], ◌++◌, length, false, codes}
 use Rattle.std.specs.Fmt.{decimal}
 use Rattle.byte_text.specs.Counts.{Rose}
 use Rattle.cache_outside.specs.Clocks.{ClockView}
@@ -7,11 +7,16 @@ use Rattle.cache_outside.specs.Sinks.{SinkView, behind}
 use Rattle.run_setup.specs.declared.make_settings.MakeSettings.{MakeSettings}
 use Rattle.shard_maker.specs.MadeRows.{made_rows}
 use Rattle.shard_maker.specs.Searches.{made_script}
+use Rattle.run_setup.specs.Settings.{config_of}
 use Rattle.script_run.specs.Blocks.{alone}
 use Rattle.script_run.specs.Counters.{CoreNumbers}
 use Rattle.script_run.specs.Runs.{IsRun, Outside}
 use Rattle.script_run.specs.declared.ended.Ended.{Ended}
 use Rattle.script_run.specs.declared.ended.Ended.TheVariants.{Done, SinkFault, NoMemory}
+use Rattle.cache_table.specs.Views.{PassView}
+use Rattle.script_run.specs.Lines.{cached}
+use Rattle.shared_run.specs.Blocks.{several}
+use Rattle.shared_run.specs.Runs.{IsSharedRun, Outsides}
 use Rattle.mount_tool.specs.Runs.{IsWritten}
 
 -- ---- the line
@@ -35,7 +40,8 @@ made_line m total sum = summary_text m.docs m.terms (postings_of m) total sum
 pub data MakeEnding : Type 0 where
   without_frames : MakeEnding  -- the maker of frames failed
   without_room : MakeEnding  -- memory was wanted before the first line
-  searched : Outside → Outside → CoreNumbers → Ended → ℕ → ℕ → MakeEnding  -- the script ran over a source and a sink of its own; and two sums
+  searched : Outside → Outside → CoreNumbers → Ended → ℕ → ℕ → MakeEnding  -- one worker ran the script over a source and a sink of its own; and two sums
+  searched_by_several : Outsides → Outsides → PassView → PassView → Ended → ℕ → ℕ → MakeEnding  -- several workers did, over sources of their own; and two sums
 
 -- the line was written where the script ran to its end and no reply was `no memory`; nothing was where memory was wanted
 abbrev pub SearchesEnd : MakeSettings → SinkView → SinkView → ℕ → ℕ → Ended → ℕ → Type 0
@@ -49,7 +55,10 @@ MakeEnds m faults now k l c d without_frames status = (status ≡ 7) × Rose fau
 MakeEnds m faults now k l c d without_room status = (status ≡ 6) × (l ≡ k) × (d ≡ c)
 MakeEnds m faults now k l c d (searched a b numbers ended total sum) status =
     IsRun (alone false [] m.run.regions) (made_script m.seed m.docs m.terms) a b numbers ended
-    × (a.clock ≡ c) × (b.clock ≡ d) × SearchesEnd m k l total sum ended status
+    × (a.clock ≡ c) × (b.clock ≡ d) × SearchesEnd m k l total sum ended status × (m.run.workers ≤ 1)
+MakeEnds m faults now k l c d (searched_by_several a b first last ended total sum) status =
+    IsSharedRun (cached false [] (config_of m.run)) (several false [] m.run.workers m.run.regions) (made_script m.seed m.docs m.terms) a b first last ended
+    × (a.clock ≡ c) × (b.clock ≡ d) × SearchesEnd m k l total sum ended status × (1 < m.run.workers)
 
 -- a run of `make`, and how it ended
 pub record IsMakeRun (m : MakeSettings) (faults now : ℕ) (k l : SinkView) (c d : ClockView) (status : ℕ) : Type 0 where

@@ -1,5 +1,5 @@
 -- The statuses of replies and runs, and what is written where the words or the script are not in form.
-use Rattle.std.specs.Prelude.{ℕ, List, [], ◌++◌, Bool, true, false, codes}
+use Rattle.std.specs.Prelude.{ℕ, List, [], ◌++◌, true, false, codes}
 use Rattle.std.specs.Fmt.{decimal}
 use Rattle.mount_script.specs.declared.error.ScriptError.{ScriptError}
 use Rattle.mount_script.specs.declared.error.ScriptError.TheVariants as script

@@ -8,10 +8,15 @@ use Rattle.mount_script.specs.declared.command.Line.{Line}
 use Rattle.mount_script.specs.declared.error.ScriptError.{ScriptError}
 use Rattle.mount_script.specs.declared.error.ScriptError.TheVariants as script
 use Rattle.run_setup.specs.declared.settings.RunSettings.{RunSettings}
+use Rattle.run_setup.specs.Settings.{config_of}
 use Rattle.script_run.specs.Blocks.{alone}
 use Rattle.script_run.specs.Counters.{CoreNumbers}
 use Rattle.script_run.specs.Runs.{IsRun, Outside}
 use Rattle.script_run.specs.declared.ended.Ended.{Ended}
+use Rattle.cache_table.specs.Views.{PassView}
+use Rattle.script_run.specs.Lines.{cached}
+use Rattle.shared_run.specs.Blocks.{several}
+use Rattle.shared_run.specs.Runs.{IsSharedRun, Outsides}
 use Rattle.mount_tool.specs.Replies.{error_text, run_status}
 use Rattle.mount_tool.specs.Runs.{IsNoted}
 
@@ -36,3 +41,21 @@ BlocksEnd tells blobs s blocks m n x y (over told numbers ended) status =
 pub record BlocksEnded (tells : Bool) (blobs : Listing) (s : RunSettings) (blocks : List (List Line)) (m n : MakerView) (x y : Outside) (status : ℕ) : Type 0 where
   pub ending : BlocksEnding
   pub ends : BlocksEnd tells blobs s blocks m n x y ending status
+
+-- ---- several workers
+
+-- how it may end with several workers
+pub data SharedEnding : Type 0 where
+  unframed : SharedEnding
+  roomless : SharedEnding
+  through : Bool → PassView → PassView → Ended → SharedEnding
+
+abbrev pub SharedEnd : Bool → Listing → RunSettings → List (List Line) → MakerView → MakerView → Outsides → Outsides → SharedEnding → ℕ → Type 0
+SharedEnd tells blobs s blocks m n x y unframed status = (status ≡ 7) × Rose m.faults n.faults × (y ≡ x)
+SharedEnd tells blobs s blocks m n x y roomless status = (status ≡ 6) × (y ≡ x)
+SharedEnd tells blobs s blocks m n x y (through told first last ended) status =
+    (status ≡ run_status ended) × (IsTrue m.tells → told ≡ true) × IsSharedRun (cached tells blobs (config_of s)) (several (tells && told) blobs s.workers s.regions) blocks x y first last ended
+
+pub record SharedBlocksEnded (tells : Bool) (blobs : Listing) (s : RunSettings) (blocks : List (List Line)) (m n : MakerView) (x y : Outsides) (status : ℕ) : Type 0 where
+  pub ending : SharedEnding
+  pub ends : SharedEnd tells blobs s blocks m n x y ending status

@@ -3,15 +3,18 @@
 #![tactic(auto)]
 
 mod hit_sums;
+mod laws;
 mod make;
 mod note;
 mod program;
 mod run;
 mod script;
 mod search;
+mod shared;
 mod term;
 
 use cache_outside::{StdSink, Untold};
+pub use laws::whole_run;
 pub use make::make_is_whole;
 use program::Handed;
 pub use run::{Outcome, mount_alone, mount_tool};

@@ -1,5 +1,5 @@
 // The command `run`: a script, by one worker.
-ghost use Rattle.std.specs.Prelude.{◌≡◌, ◌∷◌, List, IfOk, true, string_bytes};
+ghost use Rattle.std.specs.Prelude.{◌≡◌, ◌≤◌, ◌∷◌, List, IfOk, true, string_bytes};
 ghost use Rattle.cache_outside.specs.Sources.{SourceView};
 ghost use Rattle.run_setup.specs.Settings.{in_limits};
 ghost use Rattle.mount_tool.specs.Replies.{error_text, run_status};
@@ -17,7 +17,7 @@ use script_run::{Ended, run_alone};
 use std::alloc::{AllocError, Global};
 
 /// The status of a run that ended so.
-fn run_status(ended: &Ended) -> u8
+pub(crate) fn run_status(ended: &Ended) -> u8
     ensures { result ≡ run_status ended.now }
 {
     match ended {
@@ -43,7 +43,7 @@ fn error_text(alloc: Global, error: &ScriptError) -> Result<String, AllocError>
 }
 
 /// Writes why a text is no script, and gives the status.
-fn refuse<K: Sink>(alloc: Global, sink: &mut K, error: &ScriptError) -> u8
+pub(crate) fn refuse<K: Sink>(alloc: Global, sink: &mut K, error: &ScriptError) -> u8
     ensures { IsRefusal error.now (K.view sink.old) (K.view sink.new) result }
 {
     if matches!(error, ScriptError::NoMemory) {
@@ -106,6 +106,7 @@ pub(crate) fn run_script<
 ) -> u8
 where
     M::F: Drop,
+    requires one { settings.now.workers ≤ 1 }
     requires limits { in_limits settings.now ≡ true }
     ensures run { (rest : List SourceView) → IsScriptRun A.tells A.blobs settings.now
         (world (T.view script.old) (M.view frames.old) (K.view sink.old) (C.view clock.old) (S.view source.old ∷ rest))

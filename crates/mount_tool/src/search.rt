@@ -49,7 +49,7 @@ fn shard_reply<A: Archive, S: BlobSource<A>>(
         return Reply::NoMemory;
     };
     let mut bytes = DirectBytes::<A, S>::new(source, table);
-    let mut shelf = Shelf::new();
+    let mut shelf = Shelf::new(alloc);
     match query_reply(alloc, &mut bytes, &mut shelf, shard, SHOWN, &query) {
         Ok(reply) => reply,
         Err(BytesError::Fault) => Reply::Fault,

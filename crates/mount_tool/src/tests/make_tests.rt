@@ -11,7 +11,7 @@ type Row = (&'static [&'static str], &'static str);
 /// Words behind `make`, and the line. Each line is that of a script of twenty lines of Python over the definition of
 /// the generator, the pairs and the searches, and none is this program's. The first two by hand: seed 5 draws 0, so
 /// that document 0 has term 0, and of the 64 searches the 48 that do not leave it out find it; seed 1 draws 6.
-const ROWS: [Row; 7] = [
+const ROWS: [Row; 10] = [
     (
         &["seed=5", "docs=1", "terms=1"],
         "made docs 1 terms 1 postings 1 total 48 sum 48\n",
@@ -23,6 +23,25 @@ const ROWS: [Row; 7] = [
     (
         &["seed=7", "docs=200", "terms=500"],
         "made docs 200 terms 500 postings 6232 total 812 sum 35859\n",
+    ),
+    (
+        &["seed=7", "docs=200", "terms=500", "workers=8"],
+        "made docs 200 terms 500 postings 6232 total 812 sum 35859\n",
+    ),
+    (
+        &["workers=2", "seed=5", "docs=1", "terms=1"],
+        "made docs 1 terms 1 postings 1 total 48 sum 48\n",
+    ),
+    (
+        &[
+            "seed=11",
+            "region=4096",
+            "docs=40",
+            "terms=3",
+            "workers=5",
+            "regions=1",
+        ],
+        "made docs 40 terms 3 postings 5 total 107 sum 2518\n",
     ),
     (
         &["seed=7", "docs=25", "terms=4", "region=4096"],

@@ -10,32 +10,72 @@ const ROWS: [Row; 8] = [
     ("region=4096", "", "", 0),
     (
         "region=4096",
-        "mount logs mount-x\nsearch logs 10 {\"term\":{\"body\":\"fox\"}}\nsearch logs 1 {\"term\":{\"body\":\"fox\"}}\n",
+        "mount logs mount-x\n\
+         search logs 10 {\"term\":{\"body\":\"fox\"}}\n\
+         search logs 1 {\"term\":{\"body\":\"fox\"}}\n",
         "1 mounted 1 files 3 docs\n2 hits 2 _0/0 _0/2\n3 hits 2 _0/0\n",
         0,
     ),
     (
         "range=4096",
-        "mount logs mount-x\nsearch logs 10 {\"bool\":{\"must_not\":{\"term\":{\"body\":\"red\"}}}}\nsearch logs 0 {\"bool\":{}}\nread logs _0.pst 98 4\nsearch logs 10 {\"term\":{\"body\":5}}\n",
+        "mount logs mount-x\n\
+         search logs 10 {\"bool\":{\"must_not\":{\"term\":{\"body\":\"red\"}}}}\n\
+         search logs 0 {\"bool\":{}}\n\
+         read logs _0.pst 98 4\n\
+         search logs 10 {\"term\":{\"body\":5}}\n",
         "1 mounted 1 files 3 docs\n2 hits 2 _0/1 _0/2\n3 hits 3\n4 bytes 4 20726564\n5 bad query\n",
         0,
     ),
     (
         "region=4096",
-        "mount y mount-y\nread y big.bin 4090 16\nread y big.bin 4090 16\nread y big.bin 9999 1\nread y big.bin 9999 2\nread y big.bin 10000 0\nread y big.bin 10001 0\n",
-        "1 mounted 1 files 0 docs\n2 bytes 16 4a4b4c4d4e4f50515253545556575859\n3 bytes 16 4a4b4c4d4e4f50515253545556575859\n4 bytes 1 d2\n5 past end\n6 bytes 0\n7 past end\n",
+        "mount y mount-y\n\
+         read y big.bin 4090 16\n\
+         read y big.bin 4090 16\n\
+         read y big.bin 9999 1\n\
+         read y big.bin 9999 2\n\
+         read y big.bin 10000 0\n\
+         read y big.bin 10001 0\n",
+        "1 mounted 1 files 0 docs\n\
+         2 bytes 16 4a4b4c4d4e4f50515253545556575859\n\
+         3 bytes 16 4a4b4c4d4e4f50515253545556575859\n\
+         4 bytes 1 d2\n\
+         5 past end\n\
+         6 bytes 0\n\
+         7 past end\n",
         0,
     ),
     (
         "region=4096",
-        "mount z mount-z\nfetch z _0 0\nfetch z _0 1\nfetch z _0 3\nsearch z 10 {\"bool\":{\"must_not\":{\"term\":{\"body\":\"red\"}}}}\n",
-        "1 mounted 3 files 3 docs\n2 fields 1 dGl0bGU=:string:cmVkIGZveA==\n3 no doc\n4 no doc\n5 hits 1 _0/2\n",
+        "mount z mount-z\n\
+         fetch z _0 0\n\
+         fetch z _0 1\n\
+         fetch z _0 3\n\
+         search z 10 {\"bool\":{\"must_not\":{\"term\":{\"body\":\"red\"}}}}\n",
+        "1 mounted 3 files 3 docs\n\
+         2 fields 1 dGl0bGU=:string:cmVkIGZveA==\n\
+         3 no doc\n\
+         4 no doc\n\
+         5 hits 1 _0/2\n",
         0,
     ),
     (
         "region=4096",
-        "mount logs mount-x\nmount logs mount-y\ndecay\nclear logs\nclear none\n--\nunmount logs\n--\nread logs _0.pst 0 1\n",
-        "1 mounted 1 files 3 docs\n2 refused name\n3 decayed\n4 cleared\n5 not mounted\n7 unmounted\n9 not mounted\n",
+        "mount logs mount-x\n\
+         mount logs mount-y\n\
+         decay\n\
+         clear logs\n\
+         clear none\n\
+         --\n\
+         unmount logs\n\
+         --\n\
+         read logs _0.pst 0 1\n",
+        "1 mounted 1 files 3 docs\n\
+         2 refused name\n\
+         3 decayed\n\
+         4 cleared\n\
+         5 not mounted\n\
+         7 unmounted\n\
+         9 not mounted\n",
         0,
     ),
     (
@@ -66,8 +106,11 @@ fn one_region(rt: HostRuntime) -> Result<(), AllocError> {
     let alloc = rt.alloc();
     let script =
         b"mount y mount-y\nread y big.bin 0 4\nread y big.bin 4096 4\nread y big.bin 0 4\nstats\n";
-    let wanted =
-        b"1 mounted 1 files 0 docs\n2 bytes 4 00010203\n3 bytes 4 50515253\n4 bytes 4 00010203\n5 stats free 0 listed 1 leaving 0 evictions 2 promotions 0 demotions 0 fetched 12288 direct 0\n";
+    let wanted = b"1 mounted 1 files 0 docs\n\
+          2 bytes 4 00010203\n\
+          3 bytes 4 50515253\n\
+          4 bytes 4 00010203\n\
+          5 stats free 0 listed 1 leaving 0 evictions 2 promotions 0 demotions 0 fetched 12288 direct 0\n";
     let words = ["run", "regions=1", "region=4096"];
     let (answer, sink) = called(&rt, alloc, &words, script, smooth(alloc, 65_536))?;
     assert_eq!(rt; answer, 0);

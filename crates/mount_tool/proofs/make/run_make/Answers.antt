@@ -14,7 +14,7 @@ returns-then-status-gt1 g c = record {
       (g.K.Sink.view c.args.sink.now) (g.C.Clock.view c.args.clock.now) (g.C.Clock.view c.run_blocks-status.new.clock)
       _ _ c.in-Ok-read.script c.run_blocks-status.result
       (same_blocks _ _ _ _ c.as_bytes.ensures c.in-Ok-read.ensures.script c.in-Ok.ensures.script)
-      c.if-status-gt1.true c.run_blocks-status.ensures.run;
+      c.if-status-gt1.true c.requires.one c.run_blocks-status.ensures.run;
 }
 
 pub returns : goal.returns
@@ -24,5 +24,5 @@ returns g c = record {
       (g.C.Clock.view c.args.clock.now) (g.C.Clock.view c.run_blocks-status.new.clock)
       _ _ c.in-Ok-read.script c.run_blocks-status.result c.run_blocks-status.new.sink.total c.run_blocks-status.new.sink.sum c.write_summary.result
       (same_blocks _ _ _ _ c.as_bytes.ensures c.in-Ok-read.ensures.script c.in-Ok.ensures.script)
-      c.if-status-gt1.false c.write_summary.ensures c.run_blocks-status.ensures.run;
+      c.if-status-gt1.false c.requires.one c.write_summary.ensures c.run_blocks-status.ensures.run;
 }

@@ -1,6 +1,7 @@
 use Rattle.cache_door.specs.Cores.{all_tell}
 use Rattle.script_run.specs.Counters.{numbers_of}
-use Rattle.mount_tool.proofs.Cores.{new_core, new_tell}
+use Rattle.script_run.proofs.News.{new_core}
+use Rattle.mount_tool.proofs.Cores.{new_tell}
 use Rattle.mount_tool.proofs.Ends.{over_frames}
 use Rattle.mount_tool.proofs.script.run_blocks.Goals as goal
 

@@ -5,7 +5,7 @@ use Rattle.mount_tool.proofs.script.run_script.Goals as goal
 
 pub returns-in-Ok-read-clause-run : goal.returns-in-Ok-read-clause-run
 returns-in-Ok-read-clause-run g c = λ rest.
-    run_of_blocks _ _ _ _ _ _ _ _ _ _ _ _ _ rest c.in-Ok.text c.in-Ok-read.script _ (c.in-Ok.ensures.read, ap script (sym c.as_bytes.ensures) ∙ c.in-Ok-read.ensures.script) c.run_blocks.ensures.run
+    run_of_blocks _ _ _ _ _ _ _ _ _ _ _ _ _ rest c.in-Ok.text c.in-Ok-read.script _ c.requires.one (c.in-Ok.ensures.read, ap script (sym c.as_bytes.ensures) ∙ c.in-Ok-read.ensures.script) c.run_blocks.ensures.run
 
 pub returns-clause-run : goal.returns-clause-run
 returns-clause-run g c = λ rest.
