@@ -1,7 +1,7 @@
 #!/usr/bin/env python3
 """Runs the built program's command `make` over archives whose summary lines were worked out apart from it.
 
-Each is made twice, and both lines have to be the one that is written here: the numbers come of the generator's definition,
+Each is made twice by one worker, and once by two and by eight, and all lines have to be the one that is written here: the numbers come of the generator's definition,
 by a program that draws pair after pair and searches lists of postings. The second archive has 20,000 documents, and is
 searched through a cache of 256 KiB, less than a tenth of it.
 
@@ -22,9 +22,9 @@ LINES = [
 def main():
     program = sys.argv[1]
     for words, line in LINES:
-        for _ in range(2):
+        for workers in (1, 1, 2, 8):
             done = subprocess.run(
-                [program, "x", "-", "make", *words], stdin=subprocess.DEVNULL, capture_output=True, text=True, timeout=120
+                [program, "x", "-", "make", *words, f"workers={workers}"], stdin=subprocess.DEVNULL, capture_output=True, text=True, timeout=120
             )
             if done.returncode != 0 or done.stdout != line:
                 print(f"test_make: {' '.join(words)}: status {done.returncode}, {done.stdout!r}", file=sys.stderr)
