@@ -33,27 +33,21 @@ const ROUNDS: u32 = SETTING;
 
 // ---- plain
 
-fn plain_and(words: &mut [u64], others: &[u64])
-    requires { length others.now ≡ length words.old }
-{
-    for k in 0..words.len() {
-        words[k] &= others[k];
+fn plain_and(words: &mut [u64], others: &[u64]) {
+    for (word, other) in words.iter_mut().zip(others) {
+        *word &= *other;
     }
 }
 
-fn plain_or(words: &mut [u64], others: &[u64])
-    requires { length others.now ≡ length words.old }
-{
-    for k in 0..words.len() {
-        words[k] |= others[k];
+fn plain_or(words: &mut [u64], others: &[u64]) {
+    for (word, other) in words.iter_mut().zip(others) {
+        *word |= *other;
     }
 }
 
-fn plain_and_not(words: &mut [u64], others: &[u64])
-    requires { length others.now ≡ length words.old }
-{
-    for k in 0..words.len() {
-        words[k] &= !others[k];
+fn plain_and_not(words: &mut [u64], others: &[u64]) {
+    for (word, other) in words.iter_mut().zip(others) {
+        *word &= !*other;
     }
 }
 
@@ -63,6 +57,14 @@ fn plain_count(words: &[u64]) -> u64 {
         count = count.wrapping_add(u64::from(word.count_ones()));
     }
     count
+}
+
+// so that each round counts another set
+fn plain_set(words: &mut [u64], place: u32) {
+    let k = (place / 64) as usize;
+    if k < words.len() {
+        words[k] |= 1 << (place % 64);
+    }
 }
 
 fn plain_add(counts: &mut [u32], bits: &DocBits) {
@@ -107,16 +109,22 @@ fn lanes_and_not(bits: &mut DocBits, other: &DocBits) {
     }
 }
 
+fn lanes_set(bits: &mut DocBits, place: u32) {
+    if place < bits.len() {
+        bits.set(place);
+    }
+}
+
 fn say(rt: &HostRuntime, call: &str, how: &str, start: &Instant) -> io::Result<()> {
     println!(rt; "{call} {how} {}", start.elapsed(rt)?.as_nanos())
 }
 
-fn multiples(alloc: Global, step: u32) -> Result<DocBits, AllocError>
+fn multiples(alloc: Global, docs: u32, step: u32) -> Result<DocBits, AllocError>
     requires { 0 < step }
-    ensures { IfOk result (λ bits. length bits ≡ 1000000) }
+    ensures { IfOk result (λ bits. length bits ≡ docs) }
 {
-    let mut bits = DocBits::zeros(alloc, DOCS)?;
-    for i in 0..DOCS {
+    let mut bits = DocBits::zeros(alloc, docs)?;
+    for i in 0..docs {
         if i % step == 0 {
             bits.set(i);
         }
@@ -124,22 +132,43 @@ fn multiples(alloc: Global, step: u32) -> Result<DocBits, AllocError>
     Ok(bits)
 }
 
-fn words_of(alloc: Global, step: u32) -> Result<Vec<u64>, AllocError>
+fn words_of(alloc: Global, docs: u32, step: u32) -> Result<Vec<u64>, AllocError>
     requires { 0 < step }
-    ensures { IfOk result (λ words. vec_len words ≡ 15625) }
 {
-    let mut words = vec![in alloc; 0u64; 15_625]?;
-    for i in 0..DOCS {
+    let mut words = Vec::new(alloc);
+    for _ in 0..docs.div_ceil(64) {
+        words.push(0u64)?;
+    }
+    for i in 0..docs {
         if i % step == 0 {
-            words[(i / 64) as usize] |= 1 << (i % 64);
+            plain_set(&mut words, i);
         }
     }
     Ok(words)
 }
 
-fn time_lanes(rt: &HostRuntime) -> io::Result<u64> {
-    let mut bits = multiples(rt.alloc(), 3)?;
-    let other = multiples(rt.alloc(), 2)?;
+fn counts_of(alloc: Global, docs: u32) -> Result<Vec<u32>, AllocError> {
+    let mut counts = Vec::new(alloc);
+    for _ in 0..docs {
+        counts.push(0u32)?;
+    }
+    Ok(counts)
+}
+
+fn lanes_get(bits: &DocBits, place: u32) -> bool {
+    place < bits.len() && bits.get(place)
+}
+
+fn plain_get(words: &[u64], place: u32) -> bool {
+    match words.first() {
+        Some(word) => (word >> (place % 64)) & 1 == 1,
+        None => false,
+    }
+}
+
+fn time_lanes(rt: &HostRuntime, docs: u32) -> io::Result<u64> {
+    let mut bits = multiples(rt.alloc(), docs, 3)?;
+    let other = multiples(rt.alloc(), docs, 2)?;
     let start = Instant::now(rt)?;
     for _ in 0..ROUNDS {
         lanes_or(&mut bits, &other);
@@ -152,7 +181,8 @@ fn time_lanes(rt: &HostRuntime) -> io::Result<u64> {
     say(rt, "and", "lanes", &start)?;
     let start = Instant::now(rt)?;
     let mut sum = 0u64;
-    for _ in 0..ROUNDS {
+    for round in 0..ROUNDS {
+        lanes_set(&mut bits, round);
         sum = sum.wrapping_add(u64::from(bits.count()));
     }
     say(rt, "count", "lanes", &start)?;
@@ -164,9 +194,9 @@ fn time_lanes(rt: &HostRuntime) -> io::Result<u64> {
     Ok(sum.wrapping_add(u64::from(bits.count())))
 }
 
-fn time_plain(rt: &HostRuntime) -> io::Result<u64> {
-    let mut words = words_of(rt.alloc(), 3)?;
-    let others = words_of(rt.alloc(), 2)?;
+fn time_plain(rt: &HostRuntime, docs: u32) -> io::Result<u64> {
+    let mut words = words_of(rt.alloc(), docs, 3)?;
+    let others = words_of(rt.alloc(), docs, 2)?;
     let start = Instant::now(rt)?;
     for _ in 0..ROUNDS {
         plain_or(&mut words, &others);
@@ -179,7 +209,8 @@ fn time_plain(rt: &HostRuntime) -> io::Result<u64> {
     say(rt, "and", "plain", &start)?;
     let start = Instant::now(rt)?;
     let mut sum = 0u64;
-    for _ in 0..ROUNDS {
+    for round in 0..ROUNDS {
+        plain_set(&mut words, round);
         sum = sum.wrapping_add(plain_count(&words));
     }
     say(rt, "count", "plain", &start)?;
@@ -191,10 +222,10 @@ fn time_plain(rt: &HostRuntime) -> io::Result<u64> {
     Ok(sum.wrapping_add(plain_count(&words)))
 }
 
-fn tally_lanes(rt: &HostRuntime) -> io::Result<u64> {
-    let bits = multiples(rt.alloc(), 3)?;
-    let mut out = multiples(rt.alloc(), 2)?;
-    let mut tally = Tally::new(rt.alloc(), DOCS)?;
+fn tally_lanes(rt: &HostRuntime, docs: u32) -> io::Result<u64> {
+    let bits = multiples(rt.alloc(), docs, 3)?;
+    let mut out = multiples(rt.alloc(), docs, 2)?;
+    let mut tally = Tally::new(rt.alloc(), docs)?;
     let start = Instant::now(rt)?;
     for round in 0..ROUNDS {
         tally.add(&bits);
@@ -204,16 +235,16 @@ fn tally_lanes(rt: &HostRuntime) -> io::Result<u64> {
     let mut sum = 0u64;
     for m in 0..ROUNDS {
         tally.at_least(u64::from(m), &mut out);
-        sum = sum.wrapping_add(u64::from(out.get(3)));
+        sum = sum.wrapping_add(u64::from(lanes_get(&out, 3)));
     }
     say(rt, "at_least", "lanes", &start)?;
     Ok(sum)
 }
 
-fn tally_plain(rt: &HostRuntime) -> io::Result<u64> {
-    let bits = multiples(rt.alloc(), 3)?;
-    let mut out = words_of(rt.alloc(), 2)?;
-    let mut counts = vec![in rt.alloc(); 0u32; 1_000_000]?;
+fn tally_plain(rt: &HostRuntime, docs: u32) -> io::Result<u64> {
+    let bits = multiples(rt.alloc(), docs, 3)?;
+    let mut out = words_of(rt.alloc(), docs, 2)?;
+    let mut counts = counts_of(rt.alloc(), docs)?;
     let start = Instant::now(rt)?;
     for _ in 0..ROUNDS {
         plain_add(&mut counts, &bits);
@@ -223,15 +254,15 @@ fn tally_plain(rt: &HostRuntime) -> io::Result<u64> {
     let mut sum = 0u64;
     for m in 0..ROUNDS {
         plain_at_least(&mut out, &counts, u64::from(m));
-        sum = sum.wrapping_add((out[0] >> 3) & 1);
+        sum = sum.wrapping_add(u64::from(plain_get(&out, 3)));
     }
     say(rt, "at_least", "plain", &start)?;
     Ok(sum)
 }
 
 fn main(rt: HostRuntime) -> io::Result<()> {
-    let lanes = time_lanes(&rt)?.wrapping_add(tally_lanes(&rt)?);
-    let plain = time_plain(&rt)?.wrapping_add(tally_plain(&rt)?);
+    let lanes = time_lanes(&rt, DOCS)?.wrapping_add(tally_lanes(&rt, DOCS)?);
+    let plain = time_plain(&rt, DOCS)?.wrapping_add(tally_plain(&rt, DOCS)?);
     println!(rt; "sums {lanes} {plain}")
 }
 '''
@@ -241,22 +272,16 @@ PROOFS = {
 use Rattle.bench_trial.proofs.multiples.Given as goal
 
 abbrev pub invariant-loop-i : goal.invariant-loop-i
-invariant-loop-i l = length l.bits ≡ 1000000
-''',
-    "words_of/Invariants.antt": '''use Rattle.std.proofs.Common.{◌≡◌, vec_len}
-use Rattle.bench_trial.proofs.words_of.Given as goal
-
-abbrev pub invariant-loop-i : goal.invariant-loop-i
-invariant-loop-i l = vec_len l.words ≡ 15625
+invariant-loop-i l = length l.bits ≡ l.docs
 ''',
     "tally_lanes/Invariants.antt": '''use Rattle.std.proofs.Common.{◌≡◌, length}
 use Rattle.bench_trial.proofs.tally_lanes.Given as goal
 
 abbrev pub invariant-loop-round : goal.invariant-loop-round
-invariant-loop-round l = (length l.tally.counts ≡ 1000000) × (l.tally.added ≡ l.round)
+invariant-loop-round l = (length l.tally.counts ≡ l.docs) × (l.tally.added ≡ l.round)
 
 abbrev pub invariant-loop-m : goal.invariant-loop-m
-invariant-loop-m l = length l.out ≡ 1000000
+invariant-loop-m l = length l.out ≡ l.docs
 ''',
 }
 

@@ -45,7 +45,7 @@ def measured(words, script, runs):
 
 def searches(program, runs):
     with tempfile.TemporaryDirectory() as folder:
-        length, terms = postings.write_archive(folder, 10_000_000)
+        length, terms = postings.write_archive(folder, 10_000_000, 0, postings.term_lines)
         lines = ["search logs 10 {\"term\":{\"body\":\"t%07d\"}}" % (i % terms) for i in range(64)]
         script = ("mount logs mount-bench\n" + "\n".join(lines) + "\n").encode()
         run, memory = measured([program, folder, "-", "run"], script, runs)
@@ -95,4 +95,5 @@ def main():
     misses(program, runs)
 
 
-main()
+if __name__ == "__main__":
+    main()

@@ -12,8 +12,10 @@ NAME = "bench_trial"
 
 
 @contextlib.contextmanager
-def laid(commit, uses, program):
-    """The folder of the program's crate in a copy of the commit's files; `uses` are the libraries that it uses."""
+def laid(commit, uses, program, proofs=None):
+    """The folder of the program's crate in a copy of the commit's files; `uses` are the libraries that it uses.
+
+    `proofs` are the texts of its other files, by their names in the crate's folder."""
     with tempfile.TemporaryDirectory() as folder:
         files = subprocess.run(["git", "archive", commit], capture_output=True, check=True).stdout
         subprocess.run(["tar", "-x", "-C", folder], input=files, check=True)
@@ -23,6 +25,11 @@ def laid(commit, uses, program):
             crates.write("%s: %s\n" % (NAME, uses))
         with open(os.path.join(crate, "src/main.rt"), "w", encoding="utf-8") as main:
             main.write(program)
+        for name, text in (proofs or {}).items():
+            path = os.path.join(crate, name)
+            os.makedirs(os.path.dirname(path), exist_ok=True)
+            with open(path, "w", encoding="utf-8") as file:
+                file.write(text)
         yield crate
 
 

@@ -1,0 +1,76 @@
+#!/usr/bin/env python3
+"""Times the built program on scripts that 1, 2, 4 and 8 workers run over a folder, through one cache that they share.
+
+Prints the seconds on the clock and the processor seconds of
+
+- 64 searches in one block over a postings text of 10 million bytes, which the cache holds;
+- 6,000 reads of 4 KiB in one block that all hit.
+
+Of each script the same without these lines, mounts and a first pass that fills the cache, is timed too and taken off. Every
+run is made RUNS times, and the least of each is printed, with the load of the machine before the first run.
+
+usage: bench/workers.py [RUNS [PROGRAM]]
+"""
+import os
+import resource
+import subprocess
+import sys
+import tempfile
+import time
+
+import postings
+from runs import MIB, write_file
+
+WORKERS = (1, 2, 4, 8)
+
+
+def measured(words, script, runs):
+    """The least seconds on the clock, and the least processor seconds."""
+    clock, processor = [], []
+    for _ in range(runs):
+        before = resource.getrusage(resource.RUSAGE_CHILDREN)
+        start = time.monotonic()
+        done = subprocess.run(words, input=script, stdout=subprocess.DEVNULL, check=False)
+        clock.append(time.monotonic() - start)
+        after = resource.getrusage(resource.RUSAGE_CHILDREN)
+        if done.returncode != 0:
+            sys.exit("%s: status %d" % (" ".join(words), done.returncode))
+        processor.append(after.ru_utime + after.ru_stime - before.ru_utime - before.ru_stime)
+    return min(clock), min(processor)
+
+
+def compared(name, words, first, lines, runs):
+    """A line for each number of workers."""
+    alone = None
+    for workers in WORKERS:
+        words_now = [*words, "workers=%d" % workers]
+        before = measured(words_now, first.encode(), runs)
+        after = measured(words_now, (first + lines).encode(), runs)
+        clock, processor = after[0] - before[0], after[1] - before[1]
+        alone = alone or clock
+        print("%s, workers=%d: %.3f s, %.3f processor s, %.2f times the clock of one" % (name, workers, clock, processor, clock / alone))
+
+
+def main():
+    runs = int(sys.argv[1]) if len(sys.argv) > 1 else 3
+    top = os.path.dirname(os.path.dirname(os.path.abspath(__file__)))
+    program = os.path.join(top, "crates", "mount_tool", "out", "mount_tool")
+    if len(sys.argv) > 2:
+        program = sys.argv[2]
+    else:
+        subprocess.run([os.path.join(top, "mount_tool")], capture_output=True, check=False)
+    print("%d processors, load %.2f" % (os.cpu_count(), os.getloadavg()[0]))
+    with tempfile.TemporaryDirectory() as folder:
+        length, terms = postings.write_archive(folder, 10_000_000)
+        lines = "".join("search logs 10 {\"term\":{\"body\":\"t%07d\"}}\n" % (i % terms) for i in range(64))
+        first = "mount logs mount-bench\nsearch logs 10 {\"term\":{\"body\":\"t0000000\"}}\n--\n"
+        compared("64 searches over %d bytes" % length, [program, folder, "-", "run"], first, lines, runs)
+    with tempfile.TemporaryDirectory() as folder:
+        write_file(folder, "f", 16 * MIB)
+        first = "mount y mount-bench\n" + "".join("read y f %d 1048576\n--\n" % (i * MIB) for i in range(16))
+        lines = "".join("read y f %d 4096\n" % (i * 4096 % (16 * MIB)) for i in range(6000))
+        compared("6,000 reads of 4 KiB that hit", [program, folder, "-", "run"], first, lines, runs)
+
+
+if __name__ == "__main__":
+    main()
