@@ -3,11 +3,13 @@
 
 Prints the seconds on the clock and the processor seconds of
 
-- 64 searches in one block over a postings text of 10 million bytes, which the cache holds;
+- 64 searches in one block over a postings text of 10 million bytes, which the cache holds, for a term each, and for any of
+  100 terms each;
 - 6,000 reads of 4 KiB in one block that all hit.
 
-Of each script the same without these lines, mounts and a first pass that fills the cache, is timed too and taken off. Every
-run is made RUNS times, and the least of each is printed, with the load of the machine before the first run.
+Of each script the same without these lines, mounts and a first pass that fills the cache, is timed too; quotients are those of
+what the lines take more. Every run is made RUNS times, and the least of each is printed, with the load of the machine before
+the first run.
 
 usage: bench/workers.py [RUNS [PROGRAM]]
 """
@@ -40,15 +42,23 @@ def measured(words, script, runs):
 
 
 def compared(name, words, first, lines, runs):
-    """A line for each number of workers."""
+    """A line for each number of workers: the script without these lines, and with them."""
     alone = None
     for workers in WORKERS:
         words_now = [*words, "workers=%d" % workers]
         before = measured(words_now, first.encode(), runs)
         after = measured(words_now, (first + lines).encode(), runs)
-        clock, processor = after[0] - before[0], after[1] - before[1]
-        alone = alone or clock
-        print("%s, workers=%d: %.3f s, %.3f processor s, %.2f times the clock of one" % (name, workers, clock, processor, clock / alone))
+        alone = alone or after[0] - before[0]
+        clocks = "%.3f s, without these lines %.3f s" % (after[0], before[0])
+        # below ten milliseconds a difference says nothing
+        times = "" if alone < 0.01 else ", %.2f times the clock of one" % ((after[0] - before[0]) / alone)
+        print("%s, workers=%d: %s, %.3f processor s%s" % (name, workers, clocks, after[1], times))
+
+
+def search_for_any(numbers, terms):
+    """A line that searches for the documents that have any of these terms."""
+    clauses = ['{"term":{"body":"t%07d"}}' % (n % terms) for n in numbers]
+    return 'search logs 10 {"bool":{"should":[%s]}}\n' % ",".join(clauses)
 
 
 def main():
@@ -61,10 +71,12 @@ def main():
         subprocess.run([os.path.join(top, "mount_tool")], capture_output=True, check=False)
     print("%d processors, load %.2f" % (os.cpu_count(), os.getloadavg()[0]))
     with tempfile.TemporaryDirectory() as folder:
-        length, terms = postings.write_archive(folder, 10_000_000)
+        length, terms = postings.write_archive(folder, 10_000_000, 0, postings.term_lines)
         lines = "".join("search logs 10 {\"term\":{\"body\":\"t%07d\"}}\n" % (i % terms) for i in range(64))
         first = "mount logs mount-bench\nsearch logs 10 {\"term\":{\"body\":\"t0000000\"}}\n--\n"
-        compared("64 searches over %d bytes" % length, [program, folder, "-", "run"], first, lines, runs)
+        compared("64 searches for a term", [program, folder, "-", "run"], first, lines, runs)
+        lines = "".join(search_for_any(range(37 * i, 37 * i + 300, 3), terms) for i in range(64))
+        compared("64 searches for any of 100 terms", [program, folder, "-", "run"], first, lines, runs)
     with tempfile.TemporaryDirectory() as folder:
         write_file(folder, "f", 16 * MIB)
         first = "mount y mount-bench\n" + "".join("read y f %d 1048576\n--\n" % (i * MIB) for i in range(16))
