@@ -1,7 +1,9 @@
 // The command `make`: an archive that is made of a number, its searches, and a line of what there is and was found.
-ghost use Rattle.std.specs.Prelude.{◌≡◌, ◌≤◌, ◌<◌, true, length, IfOk, string_bytes};
+ghost use Rattle.std.specs.Prelude.{◌≡◌, ◌≤◌, ◌<◌, true, length, IfOk, IfSome, string_bytes};
 ghost use Rattle.cache_outside.specs.Listing.{manifests};
 ghost use Rattle.run_setup.specs.MakeSettings.{can_be_made};
+ghost use Rattle.shard_maker.specs.Searches.{made_script};
+ghost use Rattle.script_run.specs.Blocks.{WasRead};
 ghost use Rattle.mount_tool.specs.Runs.{IsWritten};
 ghost use Rattle.mount_tool.specs.Makes.{IsMakeRun, made_line, postings_of};
 ghost use Rattle.mount_tool.specs.Calls.{MakeIsWhole};
@@ -62,6 +64,43 @@ fn write_summary<K: Sink>(
     }
 }
 
+/// An archive that was made, the number of its postings, and its script.
+#[derive(Drop)]
+struct Drawn {
+    blobs: Blobs,
+    postings: u64,
+    script: Script,
+}
+
+/// Makes an archive and its script; None for want of memory.
+fn draw(alloc: Global, settings: &MakeSettings) -> Option<Drawn>
+    requires limits { can_be_made settings.now ≡ true }
+    ensures few { IfSome result (λ d. length (manifests d.blobs) ≤ 65536) }
+    ensures postings { IfSome result (λ d. d.postings ≡ postings_of settings.now) }
+    ensures script { IfSome result
+        (λ d. d.script ≡ made_script settings.now.seed settings.now.docs settings.now.terms) }
+    ensures read { IfSome result (λ d. WasRead d.script) }
+{
+    let docs = settings.docs as u32;
+    let terms = settings.terms as u32;
+    let Ok(made) = make(alloc, settings.seed, docs, terms) else {
+        return None;
+    };
+    let Made {
+        blobs,
+        postings,
+        script,
+    } = made;
+    let Ok(script) = Script::read(alloc, script.as_bytes()) else {
+        return None;
+    };
+    Some(Drawn {
+        blobs,
+        postings,
+        script,
+    })
+}
+
 /// Makes an archive, runs its script by one worker over a source in memory, writes the line, and gives the status.
 ///
 /// 7 comes only where the maker of frames failed, and 5 only where the sink did. 6 is want of memory; where it was
@@ -80,19 +119,14 @@ where
     ensures run { IsMakeRun settings.now (M.view frames.old).faults (M.view frames.new).faults
         (K.view sink.old) (K.view sink.new) (C.view clock.old) (C.view clock.new) result }
 {
-    let docs = settings.docs as u32;
-    let terms = settings.terms as u32;
-    let Ok(made) = make(alloc, settings.seed, docs, terms) else {
+    let Some(drawn) = draw(alloc, settings) else {
         return 6;
     };
-    let Made {
+    let Drawn {
         blobs,
         postings,
         script,
-    } = made;
-    let Ok(script) = Script::read(alloc, script.as_bytes()) else {
-        return 6;
-    };
+    } = drawn;
     let mut source = MemSource::<Untold>::new(alloc, blobs, STEP, Vec::new(alloc));
     let mut hits = HitSums::new();
     let status = run_blocks::<Untold, MemSource<Untold>, HitSums, C, M>(
@@ -165,19 +199,14 @@ where
     ensures run { IsMakeRun settings.now (M.view frames.old).faults (M.view frames.new).faults
         (K.view sink.old) (K.view sink.new) (C.view clock.old) (C.view clock.new) result }
 {
-    let docs = settings.docs as u32;
-    let terms = settings.terms as u32;
-    let Ok(made) = make(alloc, settings.seed, docs, terms) else {
+    let Some(drawn) = draw(alloc, settings) else {
         return 6;
     };
-    let Made {
+    let Drawn {
         blobs,
         postings,
         script,
-    } = made;
-    let Ok(script) = Script::read(alloc, script.as_bytes()) else {
-        return 6;
-    };
+    } = drawn;
     let Ok(mut sources) = made_sources(alloc, &blobs, settings.run.workers) else {
         return 6;
     };

@@ -1,19 +1,12 @@
-use Rattle.mount_tool.proofs.Makes.{made_limits, few_manifests, same_blocks, cut_short, came_to_its_end}
+use Rattle.mount_tool.proofs.Makes.{cut_short, came_to_its_end}
 use Rattle.mount_tool.proofs.make.run_make.Goals as goal
-
-pub make-requires : goal.make-requires
-make-requires g c = made_limits c.args.settings.now c.requires.limits
-
-pub new-source-requires-clause-few_manifests : goal.new-source-requires-clause-few_manifests
-new-source-requires-clause-few_manifests g c =
-    few_manifests c.args.settings.now.seed c.args.settings.now.docs c.args.settings.now.terms c.in-Ok.made.blobs c.in-Ok.ensures.archive
 
 pub returns-then-status-gt1 : goal.returns-then-status-gt1
 returns-then-status-gt1 g c = record {
   run = cut_short c.args.settings.now (g.M.FrameMaker.view c.args.frames.now) (g.M.FrameMaker.view c.run_blocks-status.new.frames)
       (g.K.Sink.view c.args.sink.now) (g.C.Clock.view c.args.clock.now) (g.C.Clock.view c.run_blocks-status.new.clock)
-      _ _ c.in-Ok-read.script c.run_blocks-status.result
-      (same_blocks _ _ _ _ c.as_bytes.ensures c.in-Ok-read.ensures.script c.in-Ok.ensures.script)
+      _ _ c.in-Some.drawn.script c.run_blocks-status.result
+      c.in-Some.ensures.script
       c.if-status-gt1.true c.requires.one c.run_blocks-status.ensures.run;
 }
 
@@ -22,7 +15,7 @@ returns g c = record {
   run = came_to_its_end c.args.settings.now (g.M.FrameMaker.view c.args.frames.now) (g.M.FrameMaker.view c.run_blocks-status.new.frames)
       (g.K.Sink.view c.args.sink.now) (g.K.Sink.view c.write_summary.new.sink)
       (g.C.Clock.view c.args.clock.now) (g.C.Clock.view c.run_blocks-status.new.clock)
-      _ _ c.in-Ok-read.script c.run_blocks-status.result c.run_blocks-status.new.sink.total c.run_blocks-status.new.sink.sum c.write_summary.result
-      (same_blocks _ _ _ _ c.as_bytes.ensures c.in-Ok-read.ensures.script c.in-Ok.ensures.script)
+      _ _ c.in-Some.drawn.script c.run_blocks-status.result c.run_blocks-status.new.sink.total c.run_blocks-status.new.sink.sum c.write_summary.result
+      c.in-Some.ensures.script
       c.if-status-gt1.false c.requires.one c.write_summary.ensures c.run_blocks-status.ensures.run;
 }

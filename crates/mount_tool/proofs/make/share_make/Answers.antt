@@ -1,19 +1,12 @@
-use Rattle.mount_tool.proofs.Makes.{made_limits, few_manifests, same_blocks, several_cut_short, several_came_to_their_end}
+use Rattle.mount_tool.proofs.Makes.{several_cut_short, several_came_to_their_end}
 use Rattle.mount_tool.proofs.make.share_make.Goals as goal
-
-pub make-requires : goal.make-requires
-make-requires g c = made_limits c.args.settings.now c.requires.limits
-
-pub made_sources-requires : goal.made_sources-requires
-made_sources-requires g c =
-    few_manifests c.args.settings.now.seed c.args.settings.now.docs c.args.settings.now.terms c.in-Ok.made.blobs c.in-Ok.ensures.archive
 
 pub returns-then-status-gt1 : goal.returns-then-status-gt1
 returns-then-status-gt1 g c = record {
   run = several_cut_short c.args.settings.now (g.M.FrameMaker.view c.args.frames.now) (g.M.FrameMaker.view c.share_blocks-status.new.frames)
       (g.K.Sink.view c.args.sink.now) (g.C.Clock.view c.args.clock.now) (g.C.Clock.view c.share_blocks-status.new.clock)
-      _ _ c.in-Ok-read.script c.share_blocks-status.result
-      (same_blocks _ _ _ _ c.as_bytes.ensures c.in-Ok-read.ensures.script c.in-Ok.ensures.script)
+      _ _ c.in-Some.drawn.script c.share_blocks-status.result
+      c.in-Some.ensures.script
       c.if-status-gt1.true c.requires.several c.share_blocks-status.ensures.run;
 }
 
@@ -22,7 +15,7 @@ returns g c = record {
   run = several_came_to_their_end c.args.settings.now (g.M.FrameMaker.view c.args.frames.now) (g.M.FrameMaker.view c.share_blocks-status.new.frames)
       (g.K.Sink.view c.args.sink.now) (g.K.Sink.view c.write_summary.new.sink)
       (g.C.Clock.view c.args.clock.now) (g.C.Clock.view c.share_blocks-status.new.clock)
-      _ _ c.in-Ok-read.script c.share_blocks-status.result c.share_blocks-status.new.sink.total c.share_blocks-status.new.sink.sum c.write_summary.result
-      (same_blocks _ _ _ _ c.as_bytes.ensures c.in-Ok-read.ensures.script c.in-Ok.ensures.script)
+      _ _ c.in-Some.drawn.script c.share_blocks-status.result c.share_blocks-status.new.sink.total c.share_blocks-status.new.sink.sum c.write_summary.result
+      c.in-Some.ensures.script
       c.if-status-gt1.false c.requires.several c.write_summary.ensures c.share_blocks-status.ensures.run;
 }
