@@ -1,3 +1,5 @@
+//! The cells of a new cache: one without a key for each of its frames.
+
 ghost use Rattle.std.specs.Prelude.{◌≡◌, IfOk, map};
 ghost use Rattle.std.specs.List.{All};
 ghost use Rattle.region_ranges.specs.Keys.{IsConfig};

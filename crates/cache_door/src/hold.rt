@@ -1,3 +1,5 @@
+//! A hold: what an actor has while it reads or fills a region.
+
 use region_ranges::ByteRange;
 use sparse_tracker::OpenGap;
 

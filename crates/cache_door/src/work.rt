@@ -1,3 +1,5 @@
+//! Counts of what a door has done: callers turned away, bytes stored, decays and clears.
+
 ghost use Rattle.std.specs.Prelude.{◌≡◌};
 ghost use Rattle.cache_door.specs.Doors.{Works, no_work, turned_away_once, entered_work, take_work, glance_work};
 

@@ -1,3 +1,5 @@
+//! The bookkeeping of a cache: which region has which key, how often it was used, and which is free or leaving.
+
 ghost use Rattle.std.specs.Prelude.{◌≡◌, ◌≢◌, ◌<◌, ◌≤◌, ◌+◌, ◌==◌, ◌++◌, ℕ, IfOk, IfSome, IfNone, IsSome};
 ghost use Rattle.std.specs.Prelude.{Some, None};
 ghost use Rattle.std.specs.Prelude.{length, slice_get, slice_index, if◌then◌else◌};

@@ -1,5 +1,5 @@
 -- Why bytes were not given, and what a refusal says of the files' counts and marks.
-use Rattle.std.specs.Prelude.{ℕ, ◌≡◌, Bool, false, IsTrue, Option, Some, None, Result, Ok, Err}
+use Rattle.std.specs.Prelude.{◌≡◌, Bool, false, IsTrue, Option, Some, None, Result, Ok, Err}
 use Rattle.byte_text.specs.Counts.{Rose}
 use Rattle.directory_input.specs.Files.{FilesView, FilesLater}
 use Rattle.directory_input.specs.declared.files.BytesError.{BytesError}

@@ -1,3 +1,5 @@
+//! Lists of node numbers, one list for each frequency; each call takes the same few steps, however long they are.
+
 ghost use Rattle.std.specs.Prelude.{◌≡◌, ◌<◌, ◌≤◌, ◌+◌, ℕ, IfOk, IfSome, [], not, ◌==◌, length, replicate};
 ghost use Rattle.freq_lists.specs.Lists.{ListsView, push_back, unlink, front, next, list_of, list_at, times};
 

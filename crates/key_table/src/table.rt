@@ -1,3 +1,5 @@
+//! A table from keys to regions, by probing, with a fixed number of places.
+
 ghost use Rattle.std.specs.Prelude.{◌≡◌, ◌<◌, ◌≤◌, ◌+◌, ◌*◌, ◌==◌, ℕ, IfOk, IsSome, Some, None, length};
 ghost use Rattle.std.specs.Prelude.{if◌then◌else◌};
 ghost use Rattle.std.specs.Int.{IsNextPowerOfTwo};

@@ -8,7 +8,7 @@ use Rattle.query_lang.specs.Trees.{Tree}
 use Rattle.query_lang.specs.Trees as tree
 use Rattle.query_lang.specs.Reading.{query, query_from, shallow}
 use Rattle.query_lang.specs.Printing.{data_of}
-use Rattle.query_lang.proofs.Json.{json_of-Some}
+use Rattle.mount_manifest.proofs.Json.{json_of-Some}
 use Rattle.query_lang.proofs.Printed.{printed_is_read}
 use Rattle.query_lang.proofs.Sizes.{data_depth}
 

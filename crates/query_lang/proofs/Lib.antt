@@ -3,7 +3,6 @@ pub mod Only
 pub mod Forms
 pub mod Printed
 pub mod Items
-pub mod Json
 pub mod Texts
 pub mod Sizes
 pub mod Back

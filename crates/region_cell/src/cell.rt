@@ -1,3 +1,5 @@
+//! The cell of one region: its key, which of its bytes are present, and the bytes in its frame.
+
 ghost use Rattle.std.specs.Prelude.{◌≡◌, ◌<◌, ◌≤◌, ◌-◌, ℕ, max, IsTrue, OnOk, OnErr, IfOk, IfSome, IfNone};
 ghost use Rattle.std.specs.Prelude.{IsOk, IsSome, is_some, length, []};
 ghost use Rattle.region_ranges.specs.Keys.{IsConfig, IsKey, tag_of, key_of, free_tag};

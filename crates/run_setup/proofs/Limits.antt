@@ -1,7 +1,6 @@
 -- The settings of a cache that the words give.
-use Rattle.std.proofs.Common.{◌≡◌, ℕ, ◌<◌, ◌≤◌, ◌%◌, ◌*◌, ◌==◌, ◌&&◌, ◌⊎◌, inl, inr, Bool, true, arith, refl, sym, ◌∙◌}
-use Rattle.std.specs.Prelude.{false}
-use Rattle.std.proofs.lemmas.Bool.{false≢true}
+use Rattle.std.proofs.Common.{◌≡◌, ℕ, ◌<◌, ◌≤◌, ◌%◌, ◌*◌, ◌==◌, ◌⊎◌, inl, inr, true, arith, sym, ◌∙◌}
+use Rattle.std.proofs.lemmas.Bool.{and_parts}
 use Rattle.std.proofs.lemmas.Bool.Decides.{nat_tests}
 use Rattle.std.proofs.lemmas.Bool.{cases_lt}
 use Rattle.std.specs.Prelude.{nat_lt, nat_le}
@@ -9,10 +8,6 @@ use Rattle.std.proofs.Math.Nat.{mod-eq_of_lt}
 use Rattle.region_ranges.specs.Keys.{IsConfig}
 use Rattle.run_setup.specs.Settings.{in_limits, config_of}
 use Rattle.run_setup.specs.declared.settings.RunSettings.{RunSettings}
-
-both : (a b : Bool) → (a && b) ≡ true → (a ≡ true) × (b ≡ true)
-both true b h = (refl, h)
-both false b h = absurd (false≢true h)
 
 below : (m n : ℕ) → nat_lt m n ≡ true → m < n
 below m n h = grind (arith, nat_tests)
@@ -31,15 +26,15 @@ divisor_by n d some divides (inr least) = least
 -- the limits of the words are those of a cache
 pub config_good : (s : RunSettings) → in_limits s ≡ true → IsConfig (config_of s)
 config_good s is =
-    let first = both _ _ is in
-    let second = both _ _ first.0 in
-    let third = both _ _ second.0 in
-    let fourth = both _ _ third.0 in
-    let regions = both _ _ fourth.1 in
-    let region_pages = both _ _ third.1 in
-    let region = both _ _ region_pages.0 in
-    let range_divides = both _ _ second.1 in
-    let range = both _ _ range_divides.0 in
+    let first = and_parts _ _ is in
+    let second = and_parts _ _ first.0 in
+    let third = and_parts _ _ second.0 in
+    let fourth = and_parts _ _ third.0 in
+    let regions = and_parts _ _ fourth.1 in
+    let region_pages = and_parts _ _ third.1 in
+    let region = and_parts _ _ region_pages.0 in
+    let range_divides = and_parts _ _ second.1 in
+    let range = and_parts _ _ range_divides.0 in
     let some_regions : 0 < s.regions = below 0 s.regions regions.0 in
     let most_regions : s.regions ≤ 512 = at_most s.regions 512 regions.1 in
     let some_region : 0 < s.region = below 0 s.region region.0 in

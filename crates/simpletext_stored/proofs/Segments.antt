@@ -3,7 +3,7 @@ use Rattle.std.proofs.Common.{◌≡◌, ℕ, zero, suc, ◌+◌, ◌-◌, ◌<�
 use Rattle.std.specs.Prelude.{Option, Some, None, Result, ◌==◌, ◌&&◌, ◌||◌, nat_lt, if◌then◌else◌, slice_index, slice_get}
 use Rattle.std.proofs.Math.Seq.{take-add}
 use Rattle.std.proofs.lemmas.List.{length-drop}
-use Rattle.std.proofs.lemmas.Bool.{and_parts}
+use Rattle.std.proofs.lemmas.Bool.{and_parts, or_from}
 use Rattle.std.proofs.lemmas.Bool.Decides.{nat_tests}
 use Rattle.directory_input.specs.Reads.{slice_of}
 use Rattle.directory_input.proofs.Slices.{drop_drop}
@@ -97,9 +97,6 @@ or_right : (a b : Bool) → a ≡ false → (a || b) ≡ true → b ≡ true
 or_right true b n h = absurd (cc)
 or_right false b n h = h
 
-neither : (a b : Bool) → a ≡ false → b ≡ false → (a || b) ≡ false
-neither a b x y = rw (x, y) refl
-
 -- a whole document stands before its END line and before the next document
 whole_before : (docs : ℕ) (past : List Form) (f : Form) → (is_start (last past) || is_between (last past)) ≡ true → is_inside (last past) ≡ true → is_between (last past) ≡ true
 whole_before docs past f h inside = or_right (is_start (last past)) (is_between (last past)) (not_at_end (last past) inside).2 h
@@ -113,7 +110,7 @@ module _ (docs : ℕ) where
   over_form past at (Doc k) content later over may ih =
       let n = over_not (last past) over in
       let p = (and_parts (is_start (last past) || is_between (last past)) (k == doc_count past) (and_parts _ _ may).0).0 in
-      let q = neither _ _ n.0 n.1 in
+      let q = or_from _ _ n.0 n.1 in
       absurd (cc (p, q))
   over_form past at Field content later over may ih = let n = over_not (last past) over in absurd (cc (n.1, may))
   over_form past at Name content later over may ih = let n = over_not (last past) over in absurd (cc (n.2, may))
@@ -122,7 +119,7 @@ module _ (docs : ℕ) where
   over_form past at End content later over may ih =
       let n = over_not (last past) over in
       let p = (and_parts (is_start (last past) || is_between (last past)) (doc_count past == docs) may).0 in
-      let q = neither _ _ n.0 n.1 in
+      let q = or_from _ _ n.0 n.1 in
       absurd (cc (p, q))
   over_form past at Checksum content later over may ih = ih refl
   over_form past at Unknown content later over may ih = absurd (cc)

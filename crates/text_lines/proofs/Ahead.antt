@@ -1,6 +1,6 @@
 -- What is read ahead, and the bytes behind it.
-use Rattle.std.proofs.Common.{◌≡◌, subst, true, false, ℕ, zero, suc, ◌+◌, ◌-◌, ◌≤◌, ◌<◌, ◌∙◌, ap, ap₂, sym, refl, arith, append_assoc, get_or, Bool, List, [], ◌∷◌, ◌++◌, length, take, drop, min}
-use Rattle.std.specs.Prelude.{IsTrue, Option, Some, None}
+use Rattle.std.proofs.Common.{◌≡◌, subst, true, false, ℕ, zero, suc, ◌+◌, ◌-◌, ◌≤◌, ◌<◌, ◌∙◌, ap, ap₂, sym, refl, arith, append_assoc, get_or, Bool, List, [], ◌∷◌, ◌++◌, length, take, drop}
+use Rattle.std.specs.Prelude.{IsTrue}
 use Rattle.std.proofs.lemmas.List.{drop-take, take-append-drop, length-take, length-drop}
 use Rattle.std.specs.Prelude.{slice_index, if◌then◌else◌}
 use Rattle.std.proofs.Common.{inl, inr, ◌⊎◌}

@@ -42,7 +42,7 @@ unfolding cut
 cut_plain x [] n s = simp (n, s)
 cut_plain x (y ∷ t) n s = simp (n, s, front_here)
 
-cut_newline : (t : List ℕ) → cut (newline ∷ t) ≡ ended (cut t)
+pub cut_newline : (t : List ℕ) → cut (newline ∷ t) ≡ ended (cut t)
 unfolding cut
 cut_newline [] = refl
 cut_newline (y ∷ t) = refl

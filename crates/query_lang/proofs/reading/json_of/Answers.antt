@@ -1,5 +1,5 @@
 use Rattle.std.proofs.lemmas.Bool.{false≢true}
-use Rattle.query_lang.proofs.Json.{json_of-Some, json_of-None}
+use Rattle.mount_manifest.proofs.Json.{json_of-Some, json_of-None}
 use Rattle.query_lang.proofs.reading.json_of.Goals as goal
 
 pub returns-in-Ok : goal.returns-in-Ok
