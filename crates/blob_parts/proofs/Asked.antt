@@ -1,16 +1,16 @@
 -- One read of a file, without a cache.
-use Rattle.std.proofs.Common.{◌≡◌, ℕ, ◌+◌, ◌≤◌, ◌<◌, List, [], ◌∷◌, ◌++◌, Bool, false, Option, length, take, refl, ap, sym, ◌∙◌}
+use Rattle.std.proofs.Common.{◌≡◌, ℕ, ◌+◌, ◌≤◌, ◌<◌, List, [], Bool, false, length, take, refl, sym, ◌∙◌}
 use Rattle.std.specs.Prelude.{IsTrue}
 use Rattle.std.proofs.lemmas.List.{append-nil}
 use Rattle.std.proofs.Math.Seq.{take-length}
 use Rattle.byte_text.specs.Counts.{Rose}
 use Rattle.cache_outside.specs.Sources.{SourceView}
 use Rattle.cache_outside.specs.Listing.{Listing}
-use Rattle.directory_input.specs.Reads.{Read, one_read}
+use Rattle.directory_input.specs.Reads.{one_read}
 use Rattle.blob_parts.specs.Content.{content_places, slice_of}
 use Rattle.blob_parts.specs.Tables.{TableParts, file_length}
 use Rattle.blob_parts.specs.Takes.{Took}
-use Rattle.blob_parts.specs.Going.{TakesReads, ReadsOn, read_places}
+use Rattle.blob_parts.specs.Going.{ReadsOn}
 
 -- a read that was answered took all its bytes
 pub answered : (tells : Bool) (blobs : Listing) (table : TableParts) (file at size : ℕ) (mark : Bool) (x y : SourceView)

@@ -1,9 +1,9 @@
 -- What was found and compared so far, one part or one file more, and at the end.
-use Rattle.std.proofs.Common.{get_or, ◌≡◌, ℕ, zero, suc, ◌+◌, ◌-◌, ◌<◌, ◌≤◌, List, [], ◌∷◌, ◌++◌, Option, Some, None, Bool, length, drop, map, refl, ap, sym, ◌∙◌, arith, subst, inl, inr, ◌⊎◌}
+use Rattle.std.proofs.Common.{◌≡◌, ℕ, zero, suc, ◌+◌, ◌-◌, ◌<◌, ◌≤◌, List, [], ◌∷◌, ◌++◌, Option, Some, None, Bool, length, drop, map, refl, ap, sym, ◌∙◌, arith, subst, inl, inr, ◌⊎◌}
 use Rattle.std.specs.Prelude.{slice_get}
 use Rattle.std.specs.List.{range_with_len}
 use Rattle.std.proofs.lemmas.List.FromFn.{map-range_with_len_more}
-use Rattle.std.proofs.lemmas.Option.{slice_get_within, slice_get-map, slice_get_read}
+use Rattle.std.proofs.lemmas.Option.{slice_get_within}
 use Rattle.byte_text.proofs.Lists.{drop_get}
 use Rattle.cache_outside.specs.Listing.{Listing, place_of, blob_size}
 use Rattle.mount_manifest.specs.declared.record.FileRecord.{FileRecord}
@@ -176,7 +176,3 @@ module _ (tells : Bool) (blobs : Listing) (files : List FileRecord) where
 -- once all parts were compared, each has its size
 pub all_sized : (blobs : Listing) (f : FileRecord) (found : List ℕ) (k : ℕ) → SizedUpTo blobs f found k → length found ≤ k → AreSized blobs f found
 all_sized blobs f found k up all i b at = up.sized i b (omega (arith, all, slice_get_within found i b at)) at
-
--- what reading an index of a list gave, seen by f
-pub read_mapped : {X Y : Type 0} (f : X → Y) (xs : List X) (i : ℕ) (x : X) → i < length xs → x ≡ get_or xs i x → slice_get (map f xs) i ≡ Some (f x)
-read_mapped f xs i x h e = rw (slice_get-map f xs i, slice_get_read xs (length xs) i x refl h e)

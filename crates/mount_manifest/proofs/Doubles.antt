@@ -1,18 +1,10 @@
 -- Names that were found not to stand twice differ.
-use Rattle.std.proofs.Common.{◌≡◌, ℕ, zero, suc, ◌+◌, ◌<◌, ◌≤◌, List, [], ◌∷◌, ◌++◌, length, Bool, true, false, Some, Ok, refl, sym, ◌∙◌, arith, ◌||◌, append_assoc, length-append, ◌⊎◌, inl, inr}
+use Rattle.std.proofs.Common.{◌≡◌, ℕ, zero, suc, ◌+◌, ◌<◌, ◌≤◌, List, [], ◌∷◌, ◌++◌, length, Bool, true, false, Some, Ok, refl, sym, ◌∙◌, arith, append_assoc, length-append, ◌⊎◌, inl, inr}
 use Rattle.std.specs.Prelude.{slice_get, ⊤}
 use Rattle.std.specs.List.{list_any}
-use Rattle.std.proofs.lemmas.Bool.{false≢true, cases_lt}
+use Rattle.std.proofs.lemmas.Bool.{false≢true, cases_lt, or_parts}
 use Rattle.mount_manifest.specs.Manifest.{no_doubles}
 use Rattle.mount_manifest.specs.Sound.{DiffersBy}
-
-none_first : (a b : Bool) → (a || b) ≡ false → a ≡ false
-none_first true b h = h
-none_first false b h = refl
-
-none_later : (a b : Bool) → (a || b) ≡ false → b ≡ false
-none_later true b h = absurd (false≢true (sym h))
-none_later false b h = h
 
 front_get : {A : Type 0} (xs ys : List A) (j : ℕ) → j < length xs → slice_get (xs ++ ys) j ≡ slice_get xs j
 front_get [] ys j less = absurd (omega arith)
@@ -24,9 +16,9 @@ apart_before : {A : Type 0} (same : A → A → Bool) (before : List A) (x : A) 
     → (j : ℕ) (y : A) → slice_get before j ≡ Some y → same x y ≡ false
 apart_before same [] x h j y at = absurd (cc)
 apart_before same (b ∷ bs) x h zero y at =
-    let e : b ≡ y = cc in rw (sym e) (none_first (same x b) (list_any (same x) bs) h)
+    let e : b ≡ y = cc in rw (sym e) (or_parts (same x b) (list_any (same x) bs) h).0
 apart_before same (b ∷ bs) x h (suc j) y at =
-    apart_before same bs x (none_later (same x b) (list_any (same x) bs) h) j y at
+    apart_before same bs x (or_parts (same x b) (list_any (same x) bs) h).1 j y at
 
 module _ {A : Type 0} (same : A → A → Bool) (name : A → List ℕ) where
   -- what stands in xs is not the same as what stands before it, there or in `before`

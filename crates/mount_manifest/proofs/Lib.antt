@@ -1,8 +1,9 @@
-mod Json
+pub mod Json
 mod Digits
 mod Steps
 mod Sound
 mod Doubles
 mod Placed
 mod Whole
+mod Read
 mod Rows

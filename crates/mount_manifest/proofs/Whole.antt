@@ -1,11 +1,12 @@
 -- What all passes together have shown of a manifest.
-use Rattle.std.proofs.Common.{◌≡◌, ℕ, ◌≤◌, ◌*◌, List, [], length, true, false, Ok, Some, refl, sym, ◌∙◌, arith, ◌||◌, Bool}
+use Rattle.std.proofs.Common.{◌≡◌, ℕ, ◌≤◌, ◌*◌, List, [], length, true, Ok, Some, sym, ◌∙◌, arith}
 use Rattle.std.specs.Prelude.{slice_get, sum_by, get_or, ⊤}
 use Rattle.std.specs.Str.{bytes_eq}
 use Rattle.std.proofs.lemmas.Cmp.{nat_list_eq_equiv}
 use Rattle.std.proofs.lemmas.List.Sums.{sum_by-le}
 use Rattle.std.proofs.lemmas.Option.{slice_get-get_or}
 use Rattle.std.proofs.lemmas.Nat.{mul-le}
+use Rattle.std.proofs.lemmas.Bool.{or_left, or_right}
 use Rattle.mount_manifest.specs.Steps.{each}
 use Rattle.mount_manifest.specs.Manifest.{Facts, no_doubles, same_file, physical_name_of, same_segment, segment_name_of, all_file_limits, placed}
 use Rattle.mount_manifest.specs.Sound.{AllNamed, FewDocs, IsSegment, IsSound, DiffersBy}
@@ -19,13 +20,6 @@ use Rattle.mount_manifest.proofs.Placed.{placed_below}
 
 equal_bytes : (xs ys : List ℕ) → xs ≡ ys → bytes_eq xs ys ≡ true
 equal_bytes xs ys e = rw (sym e) (nat_list_eq_equiv.refl xs)
-
-or_later : (a b : Bool) → b ≡ true → (a || b) ≡ true
-or_later true b h = refl
-or_later false b h = h
-
-or_first : (a b : Bool) → a ≡ true → (a || b) ≡ true
-or_first a b h = rw h
 
 segment_differ : (files : List FileRecord) (named : List NamedSegment) (segments : List Segment) → each (placed files) named ≡ Ok segments
     → DiffersBy segment_name_of named → DiffersBy (λ s. s.name) segments
@@ -49,8 +43,8 @@ sound files named segments parts u v good few_files limits few_named docs file_n
       few_parts = let a = within.0 in let b = within.1 in omega arith;
       file = λ i f at. record { named = good i f at; name = short_name f (good i f at); short = (within.2 i f at).0; cut = (within.2 i f at).1 };
       segment = λ i t at. one_segment i t at;
-      physical_names = differ same_file physical_name_of physical_name_of files u file_names (λ x y e. or_first _ _ (equal_bytes _ _ e));
-      names = differ same_file physical_name_of (λ f. f.name) files u file_names (λ x y e. or_later _ _ (equal_bytes _ _ e));
+      physical_names = differ same_file physical_name_of physical_name_of files u file_names (λ x y e. or_left _ _ (equal_bytes _ _ e));
+      names = differ same_file physical_name_of (λ f. f.name) files u file_names (λ x y e. or_right _ _ (equal_bytes _ _ e));
       segment_names = segment_differ files named segments places
           (differ same_segment segment_name_of segment_name_of named v segment_names (λ x y e. equal_bytes _ _ e));
     }

@@ -4,3 +4,4 @@ pub mod Parts
 pub mod Manifest
 pub mod Sound
 pub mod Words
+pub mod PartNames

@@ -1,7 +1,7 @@
 -- What is true of every manifest that was read.
-use Rattle.std.specs.Prelude.{◌≡◌, ℕ, ◌<◌, ◌≤◌, true, List, length, slice_get, sum_by, Some, IfSome}
+use Rattle.std.specs.Prelude.{◌≡◌, ℕ, ◌<◌, ◌≤◌, true, List, length, slice_get, sum_by, Some, IfSome, Ok}
 use Rattle.mount_manifest.specs.Parts.{parts_of}
-use Rattle.mount_manifest.specs.Manifest.{Facts, is_file_name}
+use Rattle.mount_manifest.specs.Manifest.{Facts, is_file_name, manifest}
 use Rattle.mount_manifest.specs.declared.record.FileRecord.{FileRecord}
 use Rattle.mount_manifest.specs.declared.record.Segment.{Segment}
 use Rattle.mount_manifest.specs.declared.record.NamedSegment.{NamedSegment}
@@ -32,6 +32,10 @@ pub record IsSound (m : Facts) : Type 0 where
   pub physical_names : DiffersBy (λ f. f.physical_name) m.files
   pub names : DiffersBy (λ f. f.name) m.files
   pub segment_names : DiffersBy (λ s. s.name) m.segments
+
+-- each text that is a manifest
+abbrev pub AreSound : Type 0
+AreSound = (text : List ℕ) (m : Facts) → manifest text ≡ Ok m → IsSound m
 
 -- ---- what the passes before have shown
 

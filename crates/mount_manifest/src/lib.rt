@@ -3,6 +3,7 @@
 
 mod error;
 mod form;
+mod laws;
 mod limits;
 mod manifest;
 mod member;
@@ -11,5 +12,6 @@ mod record;
 
 pub use byte_text::{Blobs, Name, Text};
 pub use error::{Field, ManifestError};
+pub use laws::sound_manifests;
 pub use manifest::Manifest;
 pub use record::{FileId, FileRecord, Segment};

@@ -1,4 +1,3 @@
-use Rattle.std.proofs.Common.{rules}
 use Rattle.std.proofs.lemmas.Result.{err_from_is_err_and}
 use Rattle.blob_parts.specs.Content.{content_places, slice_of}
 use Rattle.blob_parts.specs.Reading.{took_none}

@@ -1,7 +1,8 @@
 use Rattle.std.proofs.Common.{rules, sym}
 use Rattle.blob_parts.specs.Content.{wrong_in}
 use Rattle.blob_parts.specs.Entries.{parts_in}
-use Rattle.blob_parts.proofs.Resolved.{file_stop, file_next, refused_whole, sized_files_next, read_mapped}
+use Rattle.blob_parts.proofs.Resolved.{file_stop, file_next, refused_whole, sized_files_next}
+use Rattle.blob_parts.proofs.Placed.{read_mapped}
 use Rattle.blob_parts.proofs.resolving.size_files.Goals as goal
 
 pub size_parts-requires-clause-count : goal.size_parts-requires-clause-count
