@@ -4,7 +4,7 @@ use Rattle.std.specs.Prelude.{◌==◌, ◌&&◌, ◌||◌, is_some, filter, nat
 use Rattle.std.specs.List.{list_all, flat_map}
 use Rattle.std.specs.Str.{bytes_eq}
 use Rattle.std.proofs.Math.Logic.{◌⊎◌, inl, inr}
-use Rattle.std.proofs.lemmas.Bool.{and_parts}
+use Rattle.std.proofs.lemmas.Bool.{and_parts, and_from}
 use Rattle.std.proofs.lemmas.Bool.Decides.{nat_tests}
 use Rattle.directory_input.specs.Reads.{slice_of}
 use Rattle.directory_input.proofs.Slices.{drop_drop}
@@ -146,10 +146,6 @@ least_le : (o : Option ℕ) (d : ℕ) → is_above o d ≡ true → nat_le (leas
 least_le None d h = grind (arith, nat_tests)
 least_le (Some m) d h = grind (arith, nat_tests)
 
-both : (a b : Bool) → a ≡ true → b ≡ true → (a && b) ≡ true
-both true b h k = k
-both false b h k = absurd (true≢false (sym h))
-
 module _ (docs : ℕ) (past : List Form) (l : Taken) (rest : List Taken) where
   rises_line : (f : Form) → form_of l.content ≡ f → is_allowed docs past f ≡ true → rises_from docs (least_of (last_doc (f ∷ past))) (line_forms rest) ≡ true
       → rises_from docs (least_of (last_doc past)) (line_forms (if ends_entries f then [] else l ∷ rest)) ≡ true
@@ -159,7 +155,7 @@ module _ (docs : ℕ) (past : List Form) (l : Taken) (rest : List Taken) where
   rises_line (Doc d) e a ih =
       let outer = and_parts ((at_term past || ends_entry past) && nat_lt d docs) (is_above (last_doc past) d) a in
       let inner = and_parts (at_term past || ends_entry past) (nat_lt d docs) outer.0 in
-      rw e (both _ _ (both _ _ (least_le (last_doc past) d outer.1) inner.1) ih)
+      rw e (and_from _ _ (and_from _ _ (least_le (last_doc past) d outer.1) inner.1) ih)
   rises_line (Freq x) e a ih = rw e ih
   rises_line (Pos x) e a ih = rw e ih
   rises_line StartOffset e a ih = rw e ih

@@ -1,11 +1,11 @@
 -- The entry of a field and a term is the only one, and what its lines list are the postings.
 use Rattle.std.proofs.Common.{arith, ◌≡◌, ℕ, zero, suc, ◌+◌, ◌-◌, ◌<◌, ◌≤◌, length, get_or, List, [], ◌∷◌, append-nil, Option, Some, None, sym, Bool, true, false, refl, ap, ap₂, ◌∙◌, subst, true≢false}
-use Rattle.std.specs.Prelude.{◌==◌, ◌&&◌, ◌||◌, not, map, filter, nat_lt, nat_le, option_map, Ok}
+use Rattle.std.specs.Prelude.{◌==◌, ◌&&◌, not, map, filter, nat_lt, nat_le, option_map, Ok}
 use Rattle.std.specs.Ordering.{nat_cmp, is_lt}
 use Rattle.std.specs.Cmp.Lexicographic.{slice_cmp}
 use Rattle.std.specs.List.{list_all, list_any, flat_map}
 use Rattle.std.specs.Str.{bytes_eq}
-use Rattle.std.proofs.lemmas.Bool.{and_parts}
+use Rattle.std.proofs.lemmas.Bool.{and_parts, or_left, or_right}
 use Rattle.std.proofs.lemmas.Bool.Decides.{nat_tests}
 use Rattle.directory_input.specs.Reads.{slice_of}
 use Rattle.directory_input.specs.Windows.{Window, window_bytes, part_of}
@@ -22,18 +22,10 @@ use Rattle.simpletext_postings.proofs.EntryRows.{entry_postings, rows_are, IsEnt
 
 -- ---- names that differ
 
-pub or_first : (a b : Bool) → a ≡ true → (a || b) ≡ true
-or_first true b h = refl
-or_first false b h = absurd (true≢false (sym h))
-
-pub or_second : (a b : Bool) → b ≡ true → (a || b) ≡ true
-or_second true b h = refl
-or_second false b h = h
-
 pub any_at : (f : List ℕ) (fs : List (List ℕ)) (j : ℕ) → j < length fs → f ≡ get_or fs j [] → list_any (bytes_eq f) fs ≡ true
 any_at f [] j lt e = absurd (omega arith)
-any_at f (g ∷ fs) zero lt e = or_first _ _ (bytes_same f g e)
-any_at f (g ∷ fs) (suc j) lt e = or_second (bytes_eq f g) (list_any (bytes_eq f) fs) (any_at f fs j (omega arith) e)
+any_at f (g ∷ fs) zero lt e = or_left _ _ (bytes_same f g e)
+any_at f (g ∷ fs) (suc j) lt e = or_right (bytes_eq f g) (list_any (bytes_eq f) fs) (any_at f fs j (omega arith) e)
 
 not_any : (b : Bool) → not b ≡ true → b ≡ true → true ≡ false
 not_any true h k = sym h

@@ -4,7 +4,8 @@ use Rattle.std.specs.Prelude.{◌==◌, nat_lt, codes}
 use Rattle.std.specs.Fmt.{decimal}
 use Rattle.std.proofs.lemmas.Bool.Decides.{nat_tests}
 use Rattle.text_lines.specs.Escapes.{escape, escaped_byte, newline, backslash}
-use Rattle.text_lines.specs.Lines.{Taken, Cut, cut, in_front, ended, nothing}
+use Rattle.text_lines.specs.Lines.{Taken, Cut, cut, in_front, nothing}
+use Rattle.text_lines.proofs.Cuts.{cut_newline}
 use Rattle.simpletext_postings.specs.Postings.{form_of, indented_form, doc_of, freq_of, pos_of}
 use Rattle.simpletext_postings.specs.Rows.{fits_line, is_small}
 use Rattle.simpletext_postings.specs.Forms.{Form}
@@ -22,11 +23,6 @@ leading content size c = record { lines = line_of content size ∷ c.lines; tail
 cut_plain : (x y : ℕ) (t : List ℕ) → (x == newline) ≡ false → (x == backslash) ≡ false → cut (x ∷ y ∷ t) ≡ in_front x 1 (cut (y ∷ t))
 unfolding cut
 cut_plain x y t n s = simp (n, s)
-
-cut_end : (t : List ℕ) → cut (newline ∷ t) ≡ ended (cut t)
-unfolding cut
-cut_end [] = refl
-cut_end (y ∷ t) = refl
 
 cut_escaped : (y : ℕ) (t : List ℕ) → cut (backslash ∷ y ∷ t) ≡ in_front y 2 (cut t)
 unfolding cut
@@ -65,7 +61,7 @@ module _ (x : ℕ) (content t : List ℕ) (size : ℕ) (rest : Cut) (b : Begins 
   byte_in_front false false n s = rw (n, s) (plain_in_front n s)
 
 cut_line : (content rest : List ℕ) → cut (escape content ++ newline ∷ rest) ≡ leading content (length (escape content) + 1) (cut rest)
-cut_line [] rest = cut_end rest
+cut_line [] rest = cut_newline rest
 cut_line (x ∷ content) rest =
     let t = escape content ++ newline ∷ rest in
     let size = length (escape content) + 1 in

@@ -1,6 +1,7 @@
 -- The form of a line by the mark that it begins with.
-use Rattle.std.proofs.Common.{arith, ◌≡◌, ℕ, length, drop, List, [], ◌∷◌, ◌++◌, sym, true, refl, ap, ap₂, ◌∙◌}
-use Rattle.std.specs.Prelude.{nat_eq, codes}
+use Rattle.std.proofs.Common.{arith, ◌≡◌, ℕ, length, drop, List, [], ◌∷◌, ◌++◌, sym, true, false, refl, ap, ap₂, ◌∙◌}
+use Rattle.std.specs.Prelude.{nat_eq, codes, ◌&&◌}
+use Rattle.std.proofs.Math.Bool.{and_assoc}
 use Rattle.std.proofs.lemmas.Bool.{and_parts}
 use Rattle.std.proofs.lemmas.Bool.Decides.{nat_tests}
 use Rattle.text_lines.specs.Words.{number, begins}
@@ -15,6 +16,19 @@ begins_front (m ∷ mark) (x ∷ s) h =
     let own = parts.0 in
     let same : x ≡ m = grind (arith, nat_tests) in
     ap₂ (λ y ys. y ∷ ys) same (begins_front mark s parts.1)
+
+-- a mark in two parts
+begins_parts : (front back s : List ℕ) → begins (front ++ back) s ≡ (begins front s && begins back (drop (length front) s))
+begins_parts [] back s = refl
+begins_parts (m ∷ front) back [] = refl
+begins_parts (m ∷ front) back (x ∷ s) =
+    ap (λ b. nat_eq m x && b) (begins_parts front back s) ∙ sym (and_assoc (nat_eq m x) (begins front s) (begins back (drop (length front) s)))
+
+pub begins_both : (n : ℕ) (front back s : List ℕ) → length front ≡ n → true ≡ begins front s → begins back (drop n s) ≡ begins (front ++ back) s
+begins_both n front back s size first = sym (begins_parts front back s ∙ ap₂ ◌&&◌ (sym first) (ap (λ k. begins back (drop k s)) size))
+
+pub begins_neither : (front back s : List ℕ) → false ≡ begins front s → false ≡ begins (front ++ back) s
+begins_neither front back s first = sym (begins_parts front back s ∙ ap (λ b. b && begins back (drop (length front) s)) (sym first))
 
 pos_rest : (rest : List ℕ) → form_of (codes "      pos " ++ rest) ≡ pos_of (number rest)
 unfolding form_of indented_form

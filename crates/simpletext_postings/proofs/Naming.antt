@@ -1,16 +1,16 @@
 -- Terms that lie among the names, which grow.
-use Rattle.std.proofs.Common.{arith, ◌≡◌, ℕ, ◌+◌, ◌≤◌, length, List, [], ◌∷◌, ◌++◌, append-nil, take, drop, subst, Option, Some, None, sym, Bool, true, refl, ap, ap₂, ◌∙◌}
-use Rattle.std.specs.Prelude.{map, nat_le, option_map}
+use Rattle.std.proofs.Common.{arith, ◌≡◌, ℕ, ◌+◌, ◌≤◌, length, List, [], ◌∷◌, ◌++◌, append-nil, take, drop, subst, Option, None, sym, true, refl, ap, ap₂, ◌∙◌}
+use Rattle.std.specs.Prelude.{map}
 use Rattle.std.specs.List.{list_all}
-use Rattle.std.proofs.lemmas.Bool.{and_parts}
+use Rattle.std.proofs.lemmas.Bool.{and_parts, and_from}
 use Rattle.std.proofs.lemmas.Bool.Decides.{nat_tests}
-use Rattle.std.proofs.lemmas.List.{map-append, length-append, length-drop, drop-append-le, take-append-le, drop_at, take_all}
+use Rattle.std.proofs.lemmas.List.{length-append, length-drop, drop-append-le, take-append-le, drop_at, take_all}
 use Rattle.std.proofs.lemmas.List.Folds.{list_all-append}
 use Rattle.directory_input.specs.Reads.{slice_of}
-use Rattle.simpletext_postings.specs.Places.{NumberedTerm, numbered, name_of, lies_in, lengths}
-use Rattle.simpletext_postings.specs.Openings.{option_places, AreNamed, closed_at}
+use Rattle.simpletext_postings.specs.Places.{numbered, lies_in, lengths}
+use Rattle.simpletext_postings.specs.Openings.{option_places, AreNamed}
 use Rattle.simpletext_postings.specs.declared.places.Place.{Place}
-use Rattle.simpletext_postings.proofs.Opened.{all_more, all_join, both}
+use Rattle.simpletext_postings.proofs.Opened.{all_more, all_join}
 
 -- ---- where a term lies
 
@@ -79,6 +79,6 @@ named_more names name ps p h s n =
     record {
       lie = all_join (lies_in (length (names ++ name))) ps (p ∷ [])
           (all_more (lies_in (length names)) (lies_in (length (names ++ name))) (lies_more (length names) (length (names ++ name)) (omega (arith, all))) ps h.lie)
-          (both _ true (lies_of _ p one) refl);
+          (and_from _ true (lies_of _ p one) refl);
       whole = let e = lengths-append ps (p ∷ []) in omega (arith, e, all, h.whole, n);
     }

@@ -5,7 +5,7 @@ use Rattle.std.specs.Ordering.{nat_cmp, is_lt}
 use Rattle.std.specs.Cmp.Lexicographic.{slice_cmp}
 use Rattle.std.specs.List.{list_all, list_any}
 use Rattle.std.specs.Str.{bytes_eq}
-use Rattle.std.proofs.lemmas.Bool.{and_parts, or_parts}
+use Rattle.std.proofs.lemmas.Bool.{and_parts, or_parts, and_from, or_left, or_from, or_right}
 use Rattle.std.proofs.lemmas.Bool.Decides.{nat_tests}
 use Rattle.std.proofs.lemmas.List.{map-append, length-append}
 use Rattle.std.proofs.lemmas.List.Folds.{list_all-append, list_any-append}
@@ -20,7 +20,7 @@ use Rattle.simpletext_postings.specs.declared.shape.Shape.TheVariants as shape
 use Rattle.simpletext_postings.specs.declared.table.TableState.{TableState}
 use Rattle.simpletext_postings.specs.declared.places.Place.{Place}
 use Rattle.simpletext_postings.specs.declared.opening.Opening.{Opening}
-use Rattle.simpletext_postings.proofs.Rising.{Below, below_trans, same_bytes, bytes_same, or_true}
+use Rattle.simpletext_postings.proofs.Rising.{Below, below_trans, same_bytes, bytes_same}
 
 -- ---- where a line may stand
 
@@ -90,14 +90,6 @@ all_more p q f (x ∷ xs) h = let parts = and_parts (p x) (list_all p xs) h in r
 pub all_join : {A : Type 0} (p : A → Bool) (xs ys : List A) → list_all p xs ≡ true → list_all p ys ≡ true → list_all p (xs ++ ys) ≡ true
 all_join p xs ys h k = rw (list_all-append p xs ys, h) k
 
-pub both : (a b : Bool) → a ≡ true → b ≡ true → (a && b) ≡ true
-both true b h k = k
-both false b h k = absurd (true≢false (sym h))
-
-first_true : (a b : Bool) → a ≡ true → (a || b) ≡ true
-first_true true b h = refl
-first_true false b h = absurd (true≢false (sym h))
-
 differs_back : (f g : List ℕ) (b : Bool) → bytes_eq f g ≡ b → bytes_eq g f ≡ false → b ≡ false
 differs_back f g true e h = absurd (true≢false (sym (bytes_same g f (sym (same_bytes f g e))) ∙ h))
 differs_back f g false e h = refl
@@ -110,18 +102,14 @@ not_true : (b : Bool) → not b ≡ true → b ≡ false
 not_true true h = sym h
 not_true false h = refl
 
-no_more : (a b : Bool) → a ≡ false → b ≡ false → (a || b) ≡ false
-no_more true b h k = absurd (true≢false h)
-no_more false b h k = k
-
 differ_more : (fs : List (List ℕ)) (name : List ℕ) → differ fs ≡ true → list_any (bytes_eq name) fs ≡ false → differ (fs ++ name ∷ []) ≡ true
 differ_more [] name d h = refl
 differ_more (f ∷ fs) name d h =
     let ds = and_parts (not (list_any (bytes_eq f) fs)) (differ fs) d in
     let hs = or_parts (bytes_eq name f) (list_any (bytes_eq name) fs) h in
-    let own : list_any (bytes_eq f) (name ∷ []) ≡ false = no_more (bytes_eq f name) false (differs_back f name _ refl hs.0) refl in
-    let all : list_any (bytes_eq f) (fs ++ name ∷ []) ≡ false = list_any-append (bytes_eq f) fs (name ∷ []) ∙ no_more _ _ (not_true _ ds.0) own in
-    both _ _ (not_false _ all) (differ_more fs name ds.1 hs.1)
+    let own : list_any (bytes_eq f) (name ∷ []) ≡ false = or_from (bytes_eq f name) false (differs_back f name _ refl hs.0) refl in
+    let all : list_any (bytes_eq f) (fs ++ name ∷ []) ≡ false = list_any-append (bytes_eq f) fs (name ∷ []) ∙ or_from _ _ (not_true _ ds.0) own in
+    and_from _ _ (not_false _ all) (differ_more fs name ds.1 hs.1)
 
 -- ---- places
 
@@ -139,7 +127,7 @@ place_of size n p a b c =
     let x : nat_lt p.field n ≡ true = grind (arith, nat_tests) in
     let y : nat_le p.from p.to ≡ true = grind (arith, nat_tests) in
     let z : nat_le p.to size ≡ true = grind (arith, nat_tests) in
-    both _ _ (both _ _ x y) z
+    and_from _ _ (and_from _ _ x y) z
 
 pub place_more : (at behind n m : ℕ) → at ≤ behind → n ≤ m → (p : NumberedTerm) → is_place at n p ≡ true → is_place behind m p ≡ true
 place_more at behind n m le few p h =
@@ -172,15 +160,15 @@ rise_more [] q r h = refl
 rise_more (p ∷ ps) q r h =
     let rs = and_parts (list_all (is_before p) ps) (rise ps) r in
     let hs = and_parts (is_before p q) (list_all (λ x. is_before x q) ps) h in
-    both _ _ (all_join (is_before p) ps (q ∷ []) rs.0 (both _ true hs.0 refl)) (rise_more ps q rs.1 hs.1)
+    and_from _ _ (all_join (is_before p) ps (q ∷ []) rs.0 (and_from _ true hs.0 refl)) (rise_more ps q rs.1 hs.1)
 
 earlier_before : (p q : NumberedTerm) → p.field < q.field → is_before p q ≡ true
-earlier_before p q h = let t : nat_lt p.field q.field ≡ true = grind (arith, nat_tests) in first_true _ _ t
+earlier_before p q h = let t : nat_lt p.field q.field ≡ true = grind (arith, nat_tests) in or_left _ _ t
 
 lower_before : (p q : NumberedTerm) → p.field ≡ q.field → Below p.term q.term → is_before p q ≡ true
 lower_before p q e h =
     let t : (p.field == q.field) ≡ true = grind (arith, nat_tests) in
-    or_true (nat_lt p.field q.field) ((p.field == q.field) && is_lt (slice_cmp nat_cmp p.term q.term)) (both _ _ t h)
+    or_right (nat_lt p.field q.field) ((p.field == q.field) && is_lt (slice_cmp nat_cmp p.term q.term)) (and_from _ _ t h)
 
 or_second : (a b : Bool) → a ≡ false → (a || b) ≡ true → b ≡ true
 or_second true b e h = absurd (true≢false e)
@@ -213,7 +201,7 @@ a_term at n places None k i r = no_term at n places None refl i r
 a_term at n places (Some q) k i r =
     let here : is_place at n (record q { to = at }) ≡ true = place_of at n (record q { to = at }) (omega (arith, k.0)) k.1 (omega arith) in
     record {
-      inside = all_join (is_place at n) places (record q { to = at } ∷ []) i (both _ true here refl);
+      inside = all_join (is_place at n) places (record q { to = at } ∷ []) i (and_from _ true here refl);
       rising = rise_more places (record q { to = at }) r k.2;
     }
 
@@ -254,7 +242,7 @@ module _ (docs : ℕ) (past : List Form) (name : List ℕ) (at behind : ℕ) (ol
   more_fields = ap length all_fields ∙ length-append old.fields.items (name ∷ [])
 
   field_allowed : is_allowed docs past (Field name) ≡ true
-  field_allowed = both _ _ may (not_false _ (subst (λ fs. list_any (bytes_eq name) fs ≡ false) of.fields other))
+  field_allowed = and_from _ _ may (not_false _ (subst (λ fs. list_any (bytes_eq name) fs ≡ false) of.fields other))
 
   field_after : IsOpeningOf (Field name ∷ past) new
   field_after = record {
@@ -315,7 +303,7 @@ new_before at n places None q k e above =
 new_before at n places (Some r) q k e above =
     let same : r.field ≡ q.field = omega (arith, k.0) in
     all_join (λ p. is_before p q) places (record r { to = at } ∷ []) (all_more (λ p. is_before p r) (λ p. is_before p q) (λ p. before_trans p r q same above) places k.2)
-    (both _ true (lower_before (record r { to = at }) q same above) refl)
+    (and_from _ true (lower_before (record r { to = at }) q same above) refl)
 
 module _ (docs : ℕ) (past : List Form) (at behind : ℕ) (old closed new : Opening) (q : NumberedTerm) (of : IsOpeningOf past old)
     (may : (at_field_or_term past || ends_entry past) ≡ true) (above : is_term_above (place_term (term_read old)) q.term ≡ true) (closes : Closes at old closed)
@@ -335,7 +323,7 @@ module _ (docs : ℕ) (past : List Form) (at behind : ℕ) (old closed new : Ope
   term_places = places_are ∙ closes.places
 
   term_allowed : is_allowed docs past (Term q.term) ≡ true
-  term_allowed = both _ _ may (subst (λ t. is_term_above t q.term ≡ true) in_field.term above)
+  term_allowed = and_from _ _ may (subst (λ t. is_term_above t q.term ≡ true) in_field.term above)
 
   q_field : q.field ≡ old.field
   q_field = own_field ∙ closes.field

@@ -56,7 +56,3 @@ later before p r h same =
     let test : has_field r.field p ≡ true = bytes_same _ _ same in
     let is : is_later p r ≡ true = rw test at h in
     either_way p r _ _ refl refl is
-
-pub or_true : (a b : Bool) → b ≡ true → (a || b) ≡ true
-or_true true b h = refl
-or_true false b h = h

@@ -4,7 +4,7 @@ use Rattle.std.specs.Prelude.{◌==◌, ◌&&◌, ◌||◌, nat_lt, nat_le}
 use Rattle.std.specs.List.{list_all, list_any}
 use Rattle.std.specs.Str.{bytes_eq}
 use Rattle.std.proofs.Math.Logic.{◌⊎◌, inl, inr}
-use Rattle.std.proofs.lemmas.Bool.{and_parts, or_parts}
+use Rattle.std.proofs.lemmas.Bool.{and_parts, or_parts, or_right}
 use Rattle.std.proofs.lemmas.Bool.Decides.{nat_tests}
 use Rattle.std.proofs.lemmas.List.Folds.{list_any-append}
 use Rattle.text_lines.specs.Lines.{nothing}
@@ -16,7 +16,7 @@ use Rattle.simpletext_postings.specs.Forms.{Form}
 use Rattle.simpletext_postings.specs.Forms.{Field, Term, Doc, Freq, Pos, End, Checksum}
 use Rattle.simpletext_postings.specs.declared.rows.Row.{Row}
 use Rattle.simpletext_postings.proofs.LineTexts.{line, IsRead, field_read, term_read, doc_read, freq_read, pos_read, end_read, checksum_read}
-use Rattle.simpletext_postings.proofs.Rising.{Below, later, same_bytes, bytes_same, not_below_itself, or_true}
+use Rattle.simpletext_postings.proofs.Rising.{Below, later, same_bytes, bytes_same, not_below_itself}
 
 -- ---- the forms of rows
 
@@ -129,7 +129,7 @@ module _ (docs : ℕ) (rest : List Form) (rows : List Row) where
       let small = and_parts (is_small p) (list_all is_small ps) s in
       let rise = and_parts (list_all (nat_le p) ps) (is_not_falling ps) f in
       let low = and_parts (is_not_below (last_position past) p) (list_all (is_not_below (last_position past)) ps) l in
-      let later = counted_positions ps (Pos p ∷ past) small.1 rise.1 rise.0 (or_true (at_freq (Pos p ∷ past)) true refl) (omega arith) g in
+      let later = counted_positions ps (Pos p ∷ past) small.1 rise.1 rise.0 (or_right (at_freq (Pos p ∷ past)) true refl) (omega arith) g in
       record {
         lawful = (pos_read p small.0, refl, position_allowed past p (length ps) at count low.0, later.lawful);
         begins = later.begins;
@@ -277,16 +277,16 @@ module _ (docs : ℕ) (r : Row) (own : Kept docs r) (rows : List Row) (rest : Li
         let up = same_term same (same_bytes p.term r.term t) (later seen p r h same) in
         let above : nat_lt p.doc r.doc ≡ true = grind (arith, nat_tests) in
         doc_good docs r own (p ∷ seen) rows rest go past (a.field ∙ same) (a.term ∙ ap (λ (s : List ℕ). Some s) (same_bytes p.term r.term t)) still_new
-        (or_true (at_term past) (ends_entry past) a.ends) (rw a.doc above)
+        (or_right (at_term past) (ends_entry past) a.ends) (rw a.doc above)
     next_row true false f t h =
         let same = same_bytes p.field r.field f in
         let up = other_term t (later seen p r h same) in
         term_good docs r own (p ∷ seen) rows rest go past (a.field ∙ same) still_new
-        (or_true (at_field_or_term past) (ends_entry past) a.ends) (rw a.term up)
+        (or_right (at_field_or_term past) (ends_entry past) a.ends) (rw a.term up)
     next_row false term f t h =
         let other : list_any (has_field r.field) (p ∷ seen) ≡ false = rw f (not_some _ (rw f at h)) in
         field_good docs r own (p ∷ seen) rows rest go past a.new
-        (or_true (at_start past || at_field_or_term past) (ends_entry past) a.ends) (a.new r.field other)
+        (or_right (at_start past || at_field_or_term past) (ends_entry past) a.ends) (a.new r.field other)
       where
         not_some : (b : Bool) → not b ≡ true → b ≡ false
         not_some true h = sym h
@@ -299,7 +299,7 @@ end_good docs past h = record { lawful = (end_read, refl, h, (checksum_read, ref
 
 rows_good : (docs : ℕ) (p : Row) (seen rows : List Row) → each_follows (p ∷ seen) rows ≡ true → list_all (is_row docs) rows ≡ true
     → (past : List Form) → After past p seen → Good docs past (forms_from (Some p) rows) rows
-rows_good docs p seen [] h all past a = end_good docs past (or_true (at_start past || at_field_or_term past) (ends_entry past) a.ends)
+rows_good docs p seen [] h all past a = end_good docs past (or_right (at_start past || at_field_or_term past) (ends_entry past) a.ends)
 rows_good docs p seen (r ∷ rows) h all past a =
     let parts = and_parts (may_follow (p ∷ seen) r) (each_follows (r ∷ p ∷ seen) rows) h in
     let own = and_parts (is_row docs r) (list_all (is_row docs) rows) all in

@@ -6,16 +6,15 @@ use Rattle.std.specs.Cmp.Lexicographic.{slice_cmp}
 use Rattle.std.specs.List.{list_all, list_any}
 use Rattle.std.specs.Str.{bytes_eq}
 use Rattle.std.proofs.Math.Logic.{◌⊎◌, inl, inr}
-use Rattle.std.proofs.lemmas.Bool.{and_parts, or_parts}
+use Rattle.std.proofs.lemmas.Bool.{and_parts, and_from, or_left, or_right}
 use Rattle.std.proofs.lemmas.Bool.Decides.{nat_tests}
 use Rattle.std.proofs.lemmas.List.{get_or-map, length-map, drop_more}
 use Rattle.simpletext_postings.specs.Terms.{TermEntry, entry_of, is_entry}
 use Rattle.simpletext_postings.specs.Places.{NumberedTerm, ArePlaces, numbered, named, name_of, lies_in, is_place, is_before, is_under, count_under, rise, differ}
 use Rattle.simpletext_postings.specs.declared.places.Place.{Place}
 use Rattle.simpletext_postings.proofs.Naming.{lies}
-use Rattle.simpletext_postings.proofs.Rising.{Below, below_trans, same_bytes, bytes_same, not_below_itself, or_true}
-use Rattle.simpletext_postings.proofs.Opened.{both}
-use Rattle.simpletext_postings.proofs.Finding.{or_first, any_at, differ_index, field_of}
+use Rattle.simpletext_postings.proofs.Rising.{Below, below_trans, same_bytes, bytes_same, not_below_itself}
+use Rattle.simpletext_postings.proofs.Finding.{any_at, differ_index, field_of}
 
 -- ---- the order of terms of fields
 
@@ -37,11 +36,11 @@ lower : (f : ℕ) (s : List ℕ) (g : ℕ) (t : List ℕ) → is_lower f s g t �
 lower f s g t h = lower_by f s g t _ refl h
 
 lower_of : (f : ℕ) (s : List ℕ) (g : ℕ) (t : List ℕ) → IsLower f s g t → is_lower f s g t ≡ true
-lower_of f s g t (inl h) = let e : nat_lt f g ≡ true = grind (arith, nat_tests) in or_first _ _ e
+lower_of f s g t (inl h) = let e : nat_lt f g ≡ true = grind (arith, nat_tests) in or_left _ _ e
 lower_of f s g t (inr h) =
     let own = h.0 in
     let e : (f == g) ≡ true = grind (arith, nat_tests) in
-    or_true (nat_lt f g) ((f == g) && is_lt (slice_cmp nat_cmp s t)) (both _ _ e h.1)
+    or_right (nat_lt f g) ((f == g) && is_lt (slice_cmp nat_cmp s t)) (and_from _ _ e h.1)
 
 lower_trans : (f : ℕ) (s : List ℕ) (g : ℕ) (t : List ℕ) (k : ℕ) (u : List ℕ) → IsLower f s g t → IsLower g t k u → IsLower f s k u
 lower_trans f s g t k u (inl a) (inl b) = inl (omega (arith, a, b))
@@ -153,7 +152,7 @@ module _ (size : ℕ) (fields : List (List ℕ)) (different : differ fields ≡ 
       (differ_index fields p.field number different lt few (same_bytes _ _ parts.0 ∙ sym name), same_bytes _ _ parts.1)
 
   pub number_entry : (p : NumberedTerm) → p.field ≡ number → p.term ≡ term → Entry p ≡ true
-  number_entry p f t = both _ _ (bytes_same _ _ (ap (λ i. get_or fields i []) f ∙ name)) (bytes_same _ _ t)
+  number_entry p f t = and_from _ _ (bytes_same _ _ (ap (λ i. get_or fields i []) f ∙ name)) (bytes_same _ _ t)
 
   under_other : (p : NumberedTerm) (b : Bool) → Entry p ≡ b → p.field < length fields → is_under number term p ≡ true → b ≡ false
   under_other p false e lt h = refl
@@ -320,7 +319,7 @@ module _ (size : ℕ) (fields : List (List ℕ)) (names : List ℕ) (places : Li
         let same = entry_number size fields are.different number field term few name (numbered names p) lt e in
         let own = same.0 in
         let f : (p.field == number) ≡ true = grind (arith, nat_tests) in
-        sym (both _ _ f (bytes_same _ _ same.1)) ∙ h
+        sym (and_from _ _ f (bytes_same _ _ same.1)) ∙ h
 
     pub other : (k : ℕ) (p : Place) → k ≡ count_under number term all → k < length places → p ≡ get_or places k p → Here p ≡ false → entry ≡ None
     other k p n lt is h =

@@ -1,8 +1,7 @@
 -- Item by item through a list, with what was put behind a text so far.
 use Rattle.std.proofs.Common.{arith, ◌≡◌, ℕ, ◌+◌, ◌<◌, ◌≤◌, length, drop, append_assoc, append-nil, List, [], ◌∷◌, ◌++◌, Option, None, Some, true, refl, sym, ap, ◌∙◌, slice_get}
 use Rattle.std.specs.Prelude.{codes}
-use Rattle.std.proofs.lemmas.List.{drop_more, drop_all}
-use Rattle.std.proofs.lemmas.Option.{slice_get_within, get_or_from_slice_get}
+use Rattle.std.proofs.lemmas.List.{drop_all}
 use Rattle.byte_text.proofs.Lists.{drop_get}
 use Rattle.simpletext_postings.specs.Rows.{are_rows}
 use Rattle.simpletext_postings.specs.Written.{rows_lines, written}

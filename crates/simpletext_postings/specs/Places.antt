@@ -1,5 +1,5 @@
 -- The places of the terms, as a dictionary keeps them: a field is a number there, and a term lies among the names.
-use Rattle.std.specs.Prelude.{ℕ, ◌≡◌, ◌==◌, ◌&&◌, ◌||◌, ◌+◌, Bool, true, not, List, [], ◌∷◌, length, map, filter, get_or, drop, nat_lt, nat_le}
+use Rattle.std.specs.Prelude.{ℕ, ◌≡◌, ◌==◌, ◌&&◌, ◌||◌, ◌+◌, Bool, true, not, List, [], ◌∷◌, length, map, filter, get_or, nat_lt, nat_le, Vec, vec_capacity}
 use Rattle.directory_input.specs.Reads.{slice_of}
 use Rattle.std.specs.Str.{bytes_eq}
 use Rattle.std.specs.Ordering.{nat_cmp, is_lt}
@@ -65,6 +65,10 @@ differ [] = true
 differ (f ∷ fs) = not (list_any (bytes_eq f) fs) && differ fs
 
 -- ---- what a dictionary keeps
+
+-- a block that has room for just what is in it
+abbrev pub IsExact : {X Z : Type 0} → Vec X Z → Type 0
+IsExact v = vec_capacity v ≡ length v.items
 
 -- the places of terms that rise, in a text of so many bytes; the names are the bytes of the terms and no others
 pub record ArePlaces (size : ℕ) (fields : List (List ℕ)) (names : List ℕ) (places : List Place) : Type 0 where

@@ -1,5 +1,6 @@
 // A dictionary: the terms of a postings text, and where the text has their entries.
-ghost use Rattle.std.specs.Prelude.{◌≡◌, ◌≤◌, ◌-◌, List, [], IsTrue, IfOk, IfErr, IfSome, IsOkAnd, map, option_map, Ok, None};
+ghost use Rattle.std.specs.Prelude.{◌≡◌, ◌≤◌, ◌-◌, List, [], IsTrue, IfOk, IfErr, IfSome, IsOkAnd, OnOk, map, option_map};
+ghost use Rattle.std.specs.Prelude.{Ok, None};
 ghost use Rattle.directory_input.specs.Files.{FilesView};
 ghost use Rattle.directory_input.specs.Causes.{HasBytesCause};
 ghost use Rattle.directory_input.specs.Windows.{FitsFile, moved_to, part_of, window_bytes};
@@ -7,6 +8,7 @@ ghost use Rattle.text_lines.specs.Errors.{text_refusal};
 ghost use Rattle.text_lines.specs.Readers.{ReadsPieces};
 ghost use Rattle.simpletext_postings.specs.Postings.{postings};
 ghost use Rattle.simpletext_postings.specs.Rows.{RiseWithin};
+ghost use Rattle.simpletext_postings.specs.Places.{IsExact};
 ghost use Rattle.simpletext_postings.specs.Terms.{TermTable, FitsText, Opens, IsOfBytes, ReadsEntries};
 ghost use Rattle.simpletext_postings.specs.Terms.{entry_of, entry_places, postings_with, posting_doc};
 ghost use Rattle.simpletext_postings.specs.declared.rows.Row.{Row};
@@ -18,14 +20,14 @@ use crate::opening::Opening;
 use crate::places::{Place, find_place};
 use byte_text::Text;
 use directory_input::{FileBytes, Input};
-use std::alloc::Global;
+use std::alloc::{AllocError, Global};
 use std::marker::Model;
 use text_lines::{LineReader, TextError};
 
 /// The terms of a postings text, after Lucene SimpleText, each with the places between which the text has its entries.
-/// It keeps no postings, so its size is that of the terms: 32 bytes for each, and their own bytes in one block; both
-/// blocks grow as a `Vec` does. A look-up searches the terms by halves. Clauses see the number of documents, the input
-/// and the list of terms.
+/// It keeps no postings, so its size is that of the terms: 32 bytes for each, and their own bytes in one block; neither
+/// block has room for more. A look-up searches the terms by halves. Clauses see the number of documents, the input and
+/// the list of terms.
 #[derive(Drop)]
 pub struct Dictionary {
     alloc: Global,
@@ -40,7 +42,7 @@ pub struct Dictionary {
 impl Model for Dictionary {
     ghost use Rattle.std.specs.Prelude.{map};
     ghost use Rattle.simpletext_postings.specs.Terms.{TermTable};
-    ghost use Rattle.simpletext_postings.specs.Places.{named, numbered, ArePlaces};
+    ghost use Rattle.simpletext_postings.specs.Places.{named, numbered, ArePlaces, IsExact};
 
     ghost Value = { TermTable };
 
@@ -51,7 +53,9 @@ impl Model for Dictionary {
           terms = map (named d.fields.items) (map (numbered d.names.items) d.places.items);
         } };
 
-    ghost invariant = { λ d. ArePlaces d.input.size d.fields.items d.names.items d.places.items };
+    // the last two say that the blocks of the terms have no room for more
+    ghost invariant = { λ d. ArePlaces d.input.size d.fields.items d.names.items d.places.items
+        × IsExact d.names × IsExact d.places };
 }
 
 impl Dictionary {
@@ -77,6 +81,8 @@ impl Dictionary {
         let mut reader = LineReader::new(alloc, whole(&input))?;
         let mut opening = Opening::new(alloc, docs);
         read_lines(alloc, bytes, &mut reader, &mut opening)?;
+        fit(&mut opening.names)?;
+        fit(&mut opening.places)?;
         Ok(Dictionary {
             alloc,
             docs,
@@ -132,6 +138,18 @@ impl Dictionary {
             term,
         )
     }
+}
+
+/// Gives back the room past the last element; want of memory where there is none for the smaller block.
+fn fit<T>(items: &mut Vec<T>) -> Result<(), AllocError>
+    ensures items { items.new.items ≡ items.old.items }
+    ensures exact { OnOk result (IsExact items.new) }
+{
+    items.shrink_to_fit();
+    if items.capacity() > items.len() {
+        return Err(AllocError);
+    }
+    Ok(())
 }
 
 /// The same input, at its start.

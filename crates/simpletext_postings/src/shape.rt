@@ -1,5 +1,5 @@
 // The shape of a line: its form, without the name that it may have.
-ghost use Rattle.std.specs.Prelude.{◌≡◌, ◌≤◌, ℕ, List, false, IsTrue, codes, length, drop};
+ghost use Rattle.std.specs.Prelude.{◌≡◌, ◌≤◌, ◌+◌, ◌++◌, ℕ, List, false, IsTrue, codes, length, drop};
 ghost use Rattle.text_lines.specs.Words.{begins};
 ghost use Rattle.simpletext_postings.specs.Postings.{form_of, doc_of, freq_of, pos_of, start_of, end_of};
 ghost use Rattle.simpletext_postings.specs.Shapes.{form_with, HasName};
@@ -32,8 +32,8 @@ pub fn behind_mark(s: &[u8], n: usize) -> &[u8]
     &s[n..]
 }
 
-/// Whether a line begins with this mark. The mark's length is a part of its type, so that the compiler compares a word
-/// or two in place and calls nothing.
+/// Whether a line begins with this mark. The mark's length is a part of its type, so that the compiler compares up to
+/// 8 bytes in place and calls nothing.
 fn has_mark<const N: usize>(s: &[u8], mark: &[u8; N]) -> bool
     ensures bound { IsTrue result → N ≤ length s.now }
     ensures value { result ≡ begins mark.now s.now }
@@ -42,6 +42,14 @@ fn has_mark<const N: usize>(s: &[u8], mark: &[u8; N]) -> bool
         Some(front) => mark == front,
         None => false,
     }
+}
+
+/// The same of a mark of more than 8 bytes, the first 8 of which are compared as one word.
+fn has_long_mark<const N: usize>(s: &[u8], front: &[u8; 8], back: &[u8; N]) -> bool
+    ensures bound { IsTrue result → 8 + N ≤ length s.now }
+    ensures value { result ≡ begins (front.now ++ back.now) s.now }
+{
+    has_mark(s, front) && has_mark(behind_mark(s, 8), back)
 }
 
 fn doc_shape(number: Option<u32>) -> Shape
@@ -132,13 +140,13 @@ pub fn shape_of(s: &[u8]) -> Shape
     ensures form { form_with result s.now ≡ form_of s.now }
     ensures name { HasName result s.now }
 {
-    if has_mark(s, b"      pos ") {
+    if has_long_mark(s, b"      po", b"s ") {
         return position_shape(number(behind_mark(s, 10)));
     }
     if has_mark(s, b"    doc ") {
         return doc_shape(number(behind_mark(s, 8)));
     }
-    if has_mark(s, b"      freq ") {
+    if has_long_mark(s, b"      fr", b"eq ") {
         return frequency_shape(number(behind_mark(s, 11)));
     }
     if has_mark(s, b"field ") {

@@ -1,4 +1,4 @@
-use Rattle.std.proofs.Common.{arith, [], ◌∷◌, ◌++◌, sym, refl, subst, ap, ◌∙◌}
+use Rattle.std.proofs.Common.{[], ◌∷◌, ◌++◌, sym, refl, subst, ap, ◌∙◌}
 use Rattle.simpletext_postings.specs.Openings.{IsTableState}
 use Rattle.simpletext_postings.proofs.Opened.{takes_field}
 use Rattle.simpletext_postings.proofs.opening.Opening.begin_field.Goals as goal

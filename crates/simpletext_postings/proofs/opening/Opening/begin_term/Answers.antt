@@ -1,4 +1,4 @@
-use Rattle.std.proofs.Common.{List, ◌∷◌, ◌++◌, [], length, Some, sym, refl, subst, ap, ◌∙◌, ◌≡◌}
+use Rattle.std.proofs.Common.{◌∷◌, ◌++◌, [], length, Some, sym, refl, subst, ap, ◌∙◌}
 use Rattle.std.specs.Prelude.{map}
 use Rattle.simpletext_postings.specs.Openings.{IsTableState, AreNamed}
 use Rattle.simpletext_postings.specs.Places.{NumberedTerm, numbered}
