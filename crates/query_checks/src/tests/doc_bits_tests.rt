@@ -71,7 +71,7 @@ fn all_but_the_last_of_seventy(rt: HostRuntime) -> Result<(), AllocError> {
     Ok(())
 }
 
-// The lengths are those round one word and round eight.
+// The lengths are those round one word, round eight and round 32, and one of more.
 #[test]
 fn multiples_of_both(rt: HostRuntime) -> Result<(), AllocError> {
     for (n, want) in [
@@ -83,6 +83,10 @@ fn multiples_of_both(rt: HostRuntime) -> Result<(), AllocError> {
         (511, 86),
         (512, 86),
         (513, 86),
+        (2_047, 342),
+        (2_048, 342),
+        (2_049, 342),
+        (4_200, 700),
     ] {
         assert_eq!(rt; of_both(rt.alloc(), n)?, want, "of {n}");
     }
@@ -100,6 +104,10 @@ fn multiples_of_either(rt: HostRuntime) -> Result<(), AllocError> {
         (511, 341),
         (512, 341),
         (513, 342),
+        (2_047, 1_365),
+        (2_048, 1_365),
+        (2_049, 1_366),
+        (4_200, 2_800),
     ] {
         assert_eq!(rt; of_either(rt.alloc(), n)?, want, "of {n}");
     }
