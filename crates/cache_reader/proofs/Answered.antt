@@ -9,8 +9,15 @@ use Rattle.directory_input.specs.Files.{FilesView}
 use Rattle.blob_parts.specs.Content.{slice_of}
 use Rattle.blob_parts.specs.Takes.{Took, Takes}
 use Rattle.cache_reader.specs.Going.{is_memory}
-use Rattle.cache_reader.specs.Filling.{is_answered}
-use Rattle.cache_reader.proofs.Fills.{piece_all, piece_some}
+use Rattle.blob_parts.specs.declared.read.FetchError.{FetchError}
+use Rattle.blob_parts.specs.declared.read.FetchError.TheVariants as fetch
+use Rattle.cache_reader.specs.Filling.{is_answered, lacks_memory}
+use Rattle.cache_reader.proofs.Fills.{piece_most, piece_some}
+
+-- a fetch that was refused, not for want of memory
+pub failed_fetch : (T : Type 0) (e : FetchError) (P : Type 0) → (e ≡ fetch.Fault → P) → lacks_memory {T = T} (Err e) ≡ false → P
+failed_fetch T fetch.Fault P f h = f refl
+failed_fetch T fetch.NoMemory P f h = absurd (cc)
 
 -- an error of the source alone
 pub refused_by : (T : Type 0) (e : BytesError) (P : Type 0) → (e ≡ Fault → P) → ((m : ℕ) → e ≢ Gone m) → is_memory {T = T} (Err e) ≡ false → P
@@ -46,7 +53,8 @@ pub on_refused : {T E : Type 0} (r : Result T E) → is_answered r ≡ false →
 on_refused (Ok x) e = absurd (cc)
 on_refused (Err x) e = refl
 
--- what was taken, whatever the answer
-pub piece_of : {T E : Type 0} (r : Result T E) (t u : Option (List (ℕ × ℕ × ℕ))) (xs : List (ℕ × ℕ)) (at n : ℕ) → Takes t u (slice_of xs at n) r → (ps : List (ℕ × ℕ)) × Took t u ps × (length ps ≤ n)
-piece_of (Ok x) t u xs at n h = piece_all t u xs at n h
-piece_of (Err e) t u xs at n h = piece_some t u xs at n h
+-- what was taken, whatever the answer: all of it where it was answered
+pub piece_of : {T E : Type 0} (r : Result T E) (t u : Option (List (ℕ × ℕ × ℕ))) (xs : List (ℕ × ℕ)) (at n : ℕ) → Takes t u (slice_of xs at n) r
+    → (is_answered r ≡ true → length (slice_of xs at n) ≡ n) → (ps : List (ℕ × ℕ)) × Took t u ps × (length ps ≤ n) × (is_answered r ≡ true → length ps ≡ n)
+piece_of (Ok x) t u xs at n h size = (slice_of xs at n, h, piece_most xs at n, size)
+piece_of (Err e) t u xs at n h size = let p = piece_some t u xs at n h in (p.0, p.1, p.2, λ e. absurd (cc))

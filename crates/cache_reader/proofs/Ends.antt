@@ -13,7 +13,7 @@ use Rattle.cache_reader.specs.Parts.{ReadSetting}
 use Rattle.cache_reader.specs.Going.{Moment, Goes}
 use Rattle.cache_reader.specs.Filling.{Partly, Whole, PartGoes, given}
 use Rattle.blob_parts.specs.Reading.{took_both}
-use Rattle.cache_reader.proofs.Joins.{goes_more, goes_none, counted_more, counted_none, took_none, bounded_more, rose_then}
+use Rattle.cache_reader.proofs.Joins.{goes_more, goes_none, counted_more, counted_none, took_none, bounded_more, rose_first, rose_then}
 use Rattle.std.proofs.lemmas.List.{drop-drop, take-take, drop-take}
 use Rattle.blob_parts.specs.Content.{slice_of}
 use Rattle.cache_door.specs.Doors.{Works, turned_away_once}
@@ -41,7 +41,7 @@ part_none c out_of_memory r x y goes same = record {
   report = counted_none r;
   all = refl;
   goes = goes;
-  takes = λ told. record { places = []; took = subst (λ t. Took x.source.reads t []) (sym same) (took_none x.source.reads); bound = λ a b. same_bound c.config.range x.door.work y.door.work 0 goes.work.turned goes.work.stored };
+  takes = λ told. record { places = []; took = subst (λ t. Took x.source.reads t []) (sym same) (took_none x.source.reads); bound = λ a b. same_bound c.config.range x.door.work y.door.work 0 goes.work.turned goes.work.stored; counted = λ a b d. refl };
 }
 
 -- the part was copied
@@ -62,24 +62,25 @@ part_copied c size gap out_of_memory q r s x y h copied = record {
     places = took.0;
     took = took.1;
     bound = λ a b. subst (λ n. Bounded c.config.range x.door.work y.door.work n) (sym took.2) (same_bound c.config.range x.door.work y.door.work gap h.goes.work.turned h.goes.work.stored);
+    counted = λ a b d. omega (arith, took.2);
   };
 }
 
 -- the source refused a piece
-pub part_refused : (c : ReadSetting) (gap : ℕ) (out_of_memory : Bool) (q r : Report) (x y : Moment) → Partly c gap q r x y → (out_of_memory ≡ false → Rose x.source.faults y.source.faults) → PartGoes c 0 out_of_memory q r x y
-part_refused c gap out_of_memory q r x y h cause = record {
+pub part_refused : (c : ReadSetting) (gap : ℕ) (lacks out_of_memory : Bool) (q r : Report) (x y : Moment) → Partly c gap lacks q r x y → (out_of_memory ≡ false → Rose x.source.faults y.source.faults) → PartGoes c 0 out_of_memory q r x y
+part_refused c gap lacks out_of_memory q r x y h cause = record {
   counts = fetched_bytes h.count;
   report = h.report;
   all = refl;
   goes = h.goes;
-  takes = λ told. let took = h.took told in record { places = took.0; took = took.1; bound = λ enough calm. absurd (calm (cause enough)) };
+  takes = λ told. let took = h.took told in record { places = took.0; took = took.1; bound = λ enough calm. absurd (calm (cause enough)); counted = λ enough calm still. absurd (calm (cause enough)) };
 }
 
 -- the door turned the caller away, and the part was read past the cache, or that was refused
 pub part_direct : (c : ReadSetting) (size gap range : ℕ) (answered out_of_memory : Bool) (q r s : Report) (x y z : Moment) → gap ≤ c.config.range → size ≤ c.config.range
-    → Partly c gap q r x y → Rose x.door.work.turned_away y.door.work.turned_away → z.door.work ≡ y.door.work → Goes c no_bytes y z
+    → Partly c gap false q r x y → Rose x.door.work.turned_away y.door.work.turned_away → z.door.work ≡ y.door.work → Goes c no_bytes y z
     → (answered ≡ true → Counted r s (direct_bytes size)) → (answered ≡ false → s ≡ r) → (answered ≡ false → out_of_memory ≡ false → Rose y.source.faults z.source.faults)
-    → (IsTrue c.tells → (ps : List (ℕ × ℕ)) × Took y.source.reads z.source.reads ps × (length ps ≤ size)) → PartGoes c (given answered size) out_of_memory q s x z
+    → (IsTrue c.tells → (ps : List (ℕ × ℕ)) × Took y.source.reads z.source.reads ps × (length ps ≤ size) × (answered ≡ true → length ps ≡ size)) → PartGoes c (given answered size) out_of_memory q s x z
 part_direct c size gap range true out_of_memory q r s x y z fits short h away same later count un cause took = record {
   counts = joined (fetched_bytes h.count) (direct_bytes size);
   report = counted_more q r s (fetched_bytes h.count) (direct_bytes size) h.report (count refl);
@@ -100,6 +101,9 @@ part_direct c size gap range true out_of_memory q r s x y z fits short h away sa
         took = took_both x.source.reads y.source.reads z.source.reads first.0 more.0 first.1 more.1;
         bound = λ enough calm. rw (length-append first.0 more.0) (subst (λ (w : Work). Bounded c.config.range x.door.work w (length first.0 + length more.0)) (sym same)
             (away_bound c.config.range x.door.work y.door.work (length first.0) h.count (length more.0) away h.goes.work.stored first.2 (omega (arith, first.3, fits)) (omega (arith, more.2, short))));
+        counted = λ enough calm still.
+            let filled : length first.0 ≡ h.count = first.4 refl (λ r. calm (rose_first x.source.faults y.source.faults z.source.faults later.faults r)) (λ r. still (rose_first x.door.frame_faults y.door.frame_faults z.door.frame_faults later.frame_faults r)) in
+            omega (arith, length-append first.0 more.0, filled, more.3 refl);
       };
 }
 part_direct c size gap range false out_of_memory q r s x y z fits short h away same later count un cause took = record {
@@ -117,12 +121,12 @@ part_direct c size gap range false out_of_memory q r s x y z fits short h away s
   takes = λ told.
       let first = h.took told in
       let more = took told in
-      record { places = first.0 ++ more.0; took = took_both x.source.reads y.source.reads z.source.reads first.0 more.0 first.1 more.1; bound = λ enough calm. absurd (calm (omega (arith, cause refl enough, h.goes.faults))) };
+      record { places = first.0 ++ more.0; took = took_both x.source.reads y.source.reads z.source.reads first.0 more.0 first.1 more.1; bound = λ enough calm. absurd (calm (omega (arith, cause refl enough, h.goes.faults))); counted = λ enough calm still. absurd (calm (omega (arith, cause refl enough, h.goes.faults))) };
 }
 
 -- nothing is fetched yet
-pub partly_none : (c : ReadSetting) (r : Report) (x : Moment) → Partly c 0 r r x x
-partly_none c r x = record { count = 0; most = omega arith; goes = goes_none c x; report = counted_none r; took = λ told. ([], took_none x.source.reads, omega arith, omega arith) }
+pub partly_none : (c : ReadSetting) (out_of_memory : Bool) (r : Report) (x : Moment) → Partly c 0 out_of_memory r r x x
+partly_none c out_of_memory r x = record { count = 0; most = omega arith; goes = goes_none c x; report = counted_none r; took = λ told. ([], took_none x.source.reads, omega arith, omega arith, λ a b d. refl) }
 
 pub whole_none : (c : ReadSetting) (r : Report) (x : Moment) → Whole c 0 r r x x
 whole_none c r x = record { goes = goes_none c x; report = counted_none r; took = λ told. ([], took_none x.source.reads, refl) }
@@ -131,13 +135,19 @@ goes_then : (c : ReadSetting) (n : ℕ) (x y z : Moment) → Goes c (fetched_byt
 goes_then c n x y z h k = subst (λ m. Goes c (fetched_bytes m) x z) (omega arith) (goes_more c (fetched_bytes n) no_bytes x y z h k)
 
 -- and then the door did no work
-pub partly_then : (c : ReadSetting) (gap : ℕ) (q r : Report) (x y z : Moment) → Partly c gap q r x y → Goes c no_bytes y z → z.source.reads ≡ y.source.reads → Partly c gap q r x z
-partly_then c gap q r x y z h k same = record {
+pub partly_then : (c : ReadSetting) (gap : ℕ) (out_of_memory : Bool) (q r : Report) (x y z : Moment) → Partly c gap out_of_memory q r x y → Goes c no_bytes y z → z.source.reads ≡ y.source.reads → Partly c gap out_of_memory q r x z
+partly_then c gap out_of_memory q r x y z h k same = record {
   count = h.count;
   most = h.most;
   goes = goes_then c h.count x y z h.goes k;
   report = h.report;
-  took = λ told. let t = h.took told in (t.0, subst (λ u. Took x.source.reads u t.0) (sym same) t.1, t.2, t.3);
+  took = λ told. let t = h.took told in (
+    t.0,
+    subst (λ u. Took x.source.reads u t.0) (sym same) t.1,
+    t.2,
+    t.3,
+    λ enough calm still. t.4 enough (λ r. calm (rose_first x.source.faults y.source.faults z.source.faults k.faults r)) (λ r. still (rose_first x.door.frame_faults y.door.frame_faults z.door.frame_faults k.frame_faults r)),
+  );
 }
 
 pub whole_then : (c : ReadSetting) (gap : ℕ) (q r : Report) (x y z : Moment) → Whole c gap q r x y → Goes c no_bytes y z → z.source.reads ≡ y.source.reads → Whole c gap q r x z
@@ -162,6 +172,7 @@ part_after c size out_of_memory q r x y z first same h = record {
     took = subst (λ u. Took u z.source.reads t.places) same t.took;
     bound = λ enough calm. subst (λ n. Bounded c.config.range x.door.work z.door.work n) (zero-add (length t.places)) (bounded_more c.config.range x.door.work y.door.work z.door.work 0 (length t.places) h.goes.work.stored.later h.goes.work.turned
         (same_bound c.config.range x.door.work y.door.work 0 first.work.turned first.work.stored) (t.bound enough (λ r. calm (rose_then x.source.faults y.source.faults z.source.faults first.faults r))));
+    counted = λ enough calm still. t.counted enough (λ r. calm (rose_then x.source.faults y.source.faults z.source.faults first.faults r)) (λ r. still (rose_then x.door.frame_faults y.door.frame_faults z.door.frame_faults first.frame_faults r));
   };
 }
 
@@ -181,8 +192,8 @@ worked_away a b h =
 pub rose_away : (a b : Work) → Works a b turned_away_once → Rose a.turned_away b.turned_away
 rose_away a b h = let v : b.turned_away ≡ min (a.turned_away + 1) 18446744073709551615 = h.turned_away.value in omega (arith, v)
 
-pub partly_of : (c : ReadSetting) (r : Report) (x y : Moment) → Goes c no_bytes x y → y.source.reads ≡ x.source.reads → Partly c 0 r r x y
-partly_of c r x y goes same = record { count = 0; most = omega arith; goes = goes; report = counted_none r; took = λ told. ([], subst (λ t. Took x.source.reads t []) (sym same) (took_none x.source.reads), omega arith, omega arith) }
+pub partly_of : (c : ReadSetting) (r : Report) (x y : Moment) → Goes c no_bytes x y → y.source.reads ≡ x.source.reads → Partly c 0 false r r x y
+partly_of c r x y goes same = record { count = 0; most = omega arith; goes = goes; report = counted_none r; took = λ told. ([], subst (λ t. Took x.source.reads t []) (sym same) (took_none x.source.reads), omega arith, omega arith, λ a b d. refl) }
 
 -- some bytes of some bytes
 pub slice_slice : {X : Type 0} (xs : List X) (at size from n : ℕ) → from + n ≤ size → slice_of (slice_of xs at size) from n ≡ slice_of xs (at + from) n

@@ -1,5 +1,5 @@
 -- Pieces of a gap, one after another.
-use Rattle.std.proofs.Common.{arith, ◌≡◌, ◌≤◌, ◌+◌, ◌-◌, ℕ, List, [], ◌∷◌, ◌++◌, length, take, drop, Option, Some, None, refl, ap, sym, subst, ◌∙◌, slice_get, map, min}
+use Rattle.std.proofs.Common.{arith, ◌≡◌, ◌≤◌, ◌+◌, ◌-◌, ℕ, List, [], ◌∷◌, ◌++◌, length, take, drop, Bool, false, Option, Some, None, refl, ap, sym, subst, ◌∙◌, slice_get, map, min}
 use Rattle.std.specs.Prelude.{IsTrue}
 use Rattle.std.specs.List.{flat_map, concat}
 use Rattle.std.proofs.Math.Seq.{take-add}
@@ -9,6 +9,7 @@ use Rattle.mount_manifest.specs.declared.record.FileRecord.{FileRecord}
 use Rattle.cache_outside.specs.Listing.{Listing}
 use Rattle.blob_parts.specs.Content.{content, content_places, bytes_of, places_of, files_at, part_bytes, part_places, part_blob, part_numbers, place_in, slice_of}
 use Rattle.blob_parts.specs.Takes.{Took}
+use Rattle.byte_text.specs.Counts.{Rose}
 use Rattle.cache_reader.specs.declared.report.Report.{Report}
 use Rattle.cache_reader.specs.Reports.{no_bytes, fetched_bytes, Counted}
 use Rattle.cache_reader.specs.Parts.{ReadSetting}
@@ -16,7 +17,7 @@ use Rattle.cache_reader.specs.Parts as parts
 use Rattle.cache_reader.specs.Going.{Moment, Goes}
 use Rattle.cache_reader.specs.Filling.{Filling, Partly, Whole}
 use Rattle.blob_parts.specs.Reading.{took_both}
-use Rattle.cache_reader.proofs.Joins.{goes_more, goes_none, counted_more, counted_none, took_none}
+use Rattle.cache_reader.proofs.Joins.{goes_more, goes_none, counted_more, counted_none, took_none, rose_first, rose_then}
 
 -- a file has as many places as bytes
 places_over : (blobs : Listing) (f : FileRecord) (ks : List ℕ) → length (flat_map (part_places blobs f) ks) ≡ length (concat (map (part_bytes blobs f) ks))
@@ -73,18 +74,28 @@ filling_more c file base from at n q r s x y z le h goes count took =
 abbrev pub PieceTook : ReadSetting → ℕ → ℕ → ℕ → Moment → Moment → Type 0
 PieceTook c file place n x y = (ps : List (ℕ × ℕ)) × Took x.source.reads y.source.reads ps × (length ps ≤ n)
 
+pub piece_most : {X : Type 0} (xs : List X) (at n : ℕ) → length (slice_of xs at n) ≤ n
+piece_most xs at n = omega (arith, length-take n (drop at xs))
+
 pub piece_all : (t u : Option (List (ℕ × ℕ × ℕ))) (xs : List (ℕ × ℕ)) (at n : ℕ) → Took t u (slice_of xs at n) → (ps : List (ℕ × ℕ)) × Took t u ps × (length ps ≤ n)
-piece_all t u xs at n h = (slice_of xs at n, h, omega (arith, length-take n (drop at xs)))
+piece_all t u xs at n h = (slice_of xs at n, h, piece_most xs at n)
 
 pub piece_some : (t u : Option (List (ℕ × ℕ × ℕ))) (xs : List (ℕ × ℕ)) (at n : ℕ) → (k : ℕ) × Took t u (take k (slice_of xs at n)) → (ps : List (ℕ × ℕ)) × Took t u ps × (length ps ≤ n)
 piece_some t u xs at n h = (take h.0 (slice_of xs at n), h.1, omega (arith, length-take h.0 (slice_of xs at n), length-take n (drop at xs)))
 
--- a gap whose piece was refused
-pub partly_refused : (c : ReadSetting) (file base from at n end : ℕ) (q r : Report) (x y z w : Moment) → from ≤ at → at + n ≤ end
+-- places of bytes that are there are as many as the bytes
+pub whole_places : (blobs : Listing) (m f at n : ℕ) (out : List ℕ) → out ≡ slice_of (content blobs m f) at n → length out ≡ n → length (slice_of (content_places blobs m f) at n) ≡ n
+whole_places blobs m f at n out is size =
+    length-take n (drop at (content_places blobs m f)) ∙ ap (min n) (length-drop at (content_places blobs m f) ∙ ap (λ k. k - at) (places_are blobs m f) ∙ sym (length-drop at (content blobs m f)))
+    ∙ sym (length-take n (drop at (content blobs m f))) ∙ sym (ap length is) ∙ size
+
+-- a gap whose piece was refused, for want of memory or where a count rose
+pub partly_refused : (c : ReadSetting) (file base from at n end : ℕ) (out_of_memory : Bool) (q r : Report) (x y z w : Moment) → from ≤ at → at + n ≤ end
     → (IsTrue c.tells → base + end ≤ length (parts.places_of c file))
     → Filling c file base from at q r x y → Goes c (fetched_bytes 0) y z → Goes c no_bytes z w → w.source.reads ≡ z.source.reads
-    → (IsTrue c.tells → PieceTook c file (base + at) n y z) → Partly c (end - from) q r x w
-partly_refused c file base from at n end q r x y z w le most inside h piece failed same took = let e : at - from + 0 + 0 ≡ at - from = omega arith in record {
+    → (out_of_memory ≡ false → (Rose y.source.faults z.source.faults → ⊥) → (Rose y.door.frame_faults z.door.frame_faults → ⊥) → ⊥)
+    → (IsTrue c.tells → PieceTook c file (base + at) n y z) → Partly c (end - from) out_of_memory q r x w
+partly_refused c file base from at n end out_of_memory q r x y z w le most inside h piece failed same cause took = let e : at - from + 0 + 0 ≡ at - from = omega arith in record {
   count = at - from;
   most = omega (arith, most);
   goes = goes_as c (at - from + 0 + 0) (at - from) x w e (goes_more c (fetched_bytes (at - from + 0)) no_bytes x z w (goes_more c (fetched_bytes (at - from)) (fetched_bytes 0) x y z h.goes piece) failed);
@@ -93,20 +104,27 @@ partly_refused c file base from at n end q r x y z w le most inside h piece fail
       let more = took told in
       let before = slice_of (parts.places_of c file) (base + from) (at - from) in
       let size : length before ≡ at - from = slice_length (parts.places_of c file) (base + from) (at - from) (omega (arith, inside told, le, most)) in
-      let both : Took x.source.reads z.source.reads (before ++ more.0) = took_both x.source.reads y.source.reads z.source.reads before more.0 (h.took told) more.1 in
-      (before ++ more.0, subst (λ t. Took x.source.reads t (before ++ more.0)) (sym same) both, omega (arith, length-append before more.0, size), omega (arith, length-append before more.0, size, more.2, le, most));
+      let both : Took x.source.reads z.source.reads (before ++ more.0) = took_both x.source.reads y.source.reads z.source.reads before more.0 (h.took told) more.1 in (
+        before ++ more.0,
+        subst (λ t. Took x.source.reads t (before ++ more.0)) (sym same) both,
+        omega (arith, length-append before more.0, size),
+        omega (arith, length-append before more.0, size, more.2, le, most),
+        λ enough calm still. absurd (cause enough
+            (λ r. calm (rose_first x.source.faults z.source.faults w.source.faults failed.faults (rose_then x.source.faults y.source.faults z.source.faults h.goes.faults r)))
+            (λ r. still (rose_first x.door.frame_faults z.door.frame_faults w.door.frame_faults failed.frame_faults (rose_then x.door.frame_faults y.door.frame_faults z.door.frame_faults h.goes.frame_faults r)))),
+      );
 }
 
 -- a gap that was filled
-pub partly_filled : (c : ReadSetting) (file base from end : ℕ) (q r : Report) (x y : Moment) → from ≤ end → (IsTrue c.tells → base + end ≤ length (parts.places_of c file)) → Filling c file base from end q r x y → Partly c (end - from) q r x y
-partly_filled c file base from end q r x y le inside h = record {
+pub partly_filled : (c : ReadSetting) (file base from end : ℕ) (out_of_memory : Bool) (q r : Report) (x y : Moment) → from ≤ end → (IsTrue c.tells → base + end ≤ length (parts.places_of c file)) → Filling c file base from end q r x y → Partly c (end - from) out_of_memory q r x y
+partly_filled c file base from end out_of_memory q r x y le inside h = record {
   count = end - from;
   most = omega arith;
   goes = h.goes;
   report = h.report;
   took = λ told.
       let size : length (slice_of (parts.places_of c file) (base + from) (end - from)) ≡ end - from = slice_length (parts.places_of c file) (base + from) (end - from) (omega (arith, inside told, le)) in
-      (slice_of (parts.places_of c file) (base + from) (end - from), h.took told, omega (arith, size), omega (arith, size));
+      (slice_of (parts.places_of c file) (base + from) (end - from), h.took told, omega (arith, size), omega (arith, size), λ enough calm still. size);
 }
 
 pub whole_filled : (c : ReadSetting) (file base from end : ℕ) (q r : Report) (x y : Moment) → from ≤ end → (IsTrue c.tells → base + end ≤ length (parts.places_of c file)) → Filling c file base from end q r x y → Whole c (end - from) q r x y

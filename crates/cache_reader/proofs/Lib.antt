@@ -15,3 +15,10 @@ pub mod Runs
 pub mod Gaps
 pub mod States
 pub mod Entries
+pub mod Unmapped
+pub mod Filled
+pub mod Untaken
+pub mod Taken
+pub mod Acts
+pub mod ReadActs
+pub mod Mounts

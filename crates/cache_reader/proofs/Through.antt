@@ -58,7 +58,7 @@ read_through c a file at size given k l q r s x y number inside most h count exa
       total = counted_through q s r h.counts count h.report;
       most = omega (arith, h.all, most);
       goes = h.goes;
-      takes = λ told. let t = h.takes told in record { places = t.places; took = t.took; bound = λ enough calm. t.bound (marks enough) calm };
+      takes = λ told. let t = h.takes told in record { places = t.places; took = t.took; bound = λ enough calm. t.bound (marks enough) calm; counted = λ enough calm still. t.counted (marks enough) calm still };
       exact = exactly_one c a read k (l || k) q s x y marks (exactly_counted c (read_outcome c a read) k q r s x y count exact);
       entries = subst (λ ps. ByEntries c a ps (l || k) q s x y) (sym (append-nil (parts_of c.config.range read))) (entries_counted c a (parts_of c.config.range read) k (l || k) q r s x y marks count entries);
     }

@@ -51,7 +51,7 @@ in_region r size start end some_r some_size divides less same =
       same = omega (arith, first, second, same, third);
     }
 
-few_regions : (size start k : ℕ) → 0 < size → size % 4096 ≡ 0 → k * size ≤ start → start < 1099511623680 → k < 268435455
+pub few_regions : (size start k : ℕ) → 0 < size → size % 4096 ≡ 0 → k * size ≤ start → start < 1099511623680 → k < 268435455
 few_regions size start k some pages low less =
     let least : 4096 ≤ size = omega (arith, some, pages) in
     let m : k * 4096 ≤ k * size = mul-le-mul_left k least in

@@ -10,3 +10,5 @@ pub mod Holds
 pub mod Runs
 pub mod Reader
 pub mod Onward
+pub mod Once
+pub mod MountsOnce

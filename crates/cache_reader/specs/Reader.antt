@@ -46,7 +46,7 @@ pub record ReadsThrough (c : ReadSetting) (a : ℕ) (reads : List Read) (total_b
   pub total : Counted total_before total_now counts
   pub most : counts.hit + counts.direct ≤ sum_by (λ r. r.size) reads
   pub goes : Goes c counts x y
-  pub takes : IsTrue c.tells → Takes c out_of_memory_now x y
+  pub takes : IsTrue c.tells → Takes c counts out_of_memory_now x y
   pub exact : Exactly c (reads_outcome c a reads) out_of_memory_now total_before total_now x y
   pub entries : ByEntries c a (reads_parts c.config.range reads) out_of_memory_now total_before total_now x y
 

@@ -84,16 +84,22 @@ bounded_more range a b d m n up on h k s t =
     let second = k s t in
     (omega (arith, first.0, second.0), omega (arith, first.1, second.1))
 
-pub takes_none : (c : ReadSetting) (out_of_memory : Bool) (x : Moment) → Takes c out_of_memory x x
-takes_none c out_of_memory x = record { places = []; took = took_none x.source.reads; bound = λ a b. bounded_none c.config.range x.door.work }
+pub takes_none : (c : ReadSetting) (out_of_memory : Bool) (x : Moment) → Takes c no_bytes out_of_memory x x
+takes_none c out_of_memory x = record { places = []; took = took_none x.source.reads; bound = λ a b. bounded_none c.config.range x.door.work; counted = λ a b d. refl }
 
-pub takes_more : (c : ReadSetting) (k l : Bool) (m n : Report) (x y z : Moment) → (l ≡ false → k ≡ false) → Goes c m x y → Goes c n y z → Takes c k x y → Takes c l y z → Takes c l x z
+pub takes_more : (c : ReadSetting) (k l : Bool) (m n : Report) (x y z : Moment) → (l ≡ false → k ≡ false) → Goes c m x y → Goes c n y z → Takes c m k x y → Takes c n l y z → Takes c (joined m n) l x z
 takes_more c k l m n x y z marks first second h j = record {
   places = h.places ++ j.places;
   took = took_both x.source.reads y.source.reads z.source.reads h.places j.places h.took j.took;
   bound = λ enough calm. rw (length-append h.places j.places) (bounded_more c.config.range x.door.work y.door.work z.door.work (length h.places) (length j.places) second.work.stored.later second.work.turned
       (h.bound (marks enough) (λ r. calm (rose_first x.source.faults y.source.faults z.source.faults second.faults r)))
       (j.bound enough (λ r. calm (rose_then x.source.faults y.source.faults z.source.faults first.faults r))));
+  counted = λ enough calm still.
+      let before : length h.places ≡ m.fetched + m.direct = h.counted (marks enough) (λ r. calm (rose_first x.source.faults y.source.faults z.source.faults second.faults r))
+      (λ r. still (rose_first x.door.frame_faults y.door.frame_faults z.door.frame_faults second.frame_faults r)) in
+      let then : length j.places ≡ n.fetched + n.direct = j.counted enough (λ r. calm (rose_then x.source.faults y.source.faults z.source.faults first.faults r))
+      (λ r. still (rose_then x.door.frame_faults y.door.frame_faults z.door.frame_faults first.frame_faults r)) in
+      omega (arith, length-append h.places j.places, before, then);
 }
 
 pub unmarked : (first then : Bool) → (IsTrue first → IsTrue then) → then ≡ false → first ≡ false

@@ -11,7 +11,7 @@ ghost use Rattle.cache_door.specs.Machine.{State};
 ghost use Rattle.cache_reader.specs.Reports.{fetched_bytes};
 ghost use Rattle.cache_reader.specs.Parts.{read_setting};
 ghost use Rattle.cache_reader.specs.Going.{moment, Goes};
-ghost use Rattle.cache_reader.specs.Filling.{piece_hold, piece_count, Partly, Whole, SameHold};
+ghost use Rattle.cache_reader.specs.Filling.{piece_hold, piece_count, lacks_memory, Partly, Whole, SameHold};
 ghost use Rattle.cache_reader.specs.Stored.{rest_stored, gap_stored};
 ghost use Rattle.cache_reader.specs.Alone.{SamePolicy};
 
@@ -88,8 +88,9 @@ fn fill<A: Archive, D: CacheDoor<A>, S: BlobSource<A>>(
     ensures fault { IsErrOf result FetchError.Fault → Rose (S.view source.old).faults (S.view source.new).faults }
     ensures frame { result ≡ Ok false → Rose (D.view door.old).frame_faults (D.view door.new).frame_faults }
     ensures turned { result ≡ Ok false → Rose (D.view door.old).work.turned_away (D.view door.new).work.turned_away }
-    ensures partly { Partly (read_setting A.tells A.blobs table.now setting.now) (gap.end - gap.start) report.old
-        report.new (moment (S.view source.old) (D.view door.old)) (moment (S.view source.new) (D.view door.new)) }
+    ensures partly { Partly (read_setting A.tells A.blobs table.now setting.now) (gap.end - gap.start)
+        (lacks_memory result) report.old report.new (moment (S.view source.old) (D.view door.old))
+        (moment (S.view source.new) (D.view door.new)) }
     ensures whole { result ≡ Ok true → Whole (read_setting A.tells A.blobs table.now setting.now) (gap.end - gap.start)
         report.old report.new (moment (S.view source.old) (D.view door.old))
         (moment (S.view source.new) (D.view door.new)) }
@@ -148,7 +149,7 @@ pub(crate) fn fill_gap<A: Archive, D: CacheDoor<A>, S: BlobSource<A>>(
     ensures fault { IsErrOf result FetchError.Fault → Rose (S.view source.old).faults (S.view source.new).faults }
     ensures turned { result ≡ Ok false → Rose (D.view door.old).work.turned_away (D.view door.new).work.turned_away }
     ensures partly { Partly (read_setting A.tells A.blobs table.now setting.now) (range_end gap - range_start gap)
-        report.old report.new (moment (S.view source.old) (D.view door.old))
+        (lacks_memory result) report.old report.new (moment (S.view source.old) (D.view door.old))
         (moment (S.view source.new) (D.view door.new)) }
     ensures whole { result ≡ Ok true → Whole (read_setting A.tells A.blobs table.now setting.now)
         (range_end gap - range_start gap) report.old report.new (moment (S.view source.old) (D.view door.old))

@@ -14,7 +14,7 @@ ghost use Rattle.cache_reader.specs.Reports.{no_bytes, direct_bytes, Counted};
 ghost use Rattle.cache_reader.specs.Bounds.{Worked};
 ghost use Rattle.cache_reader.specs.Parts.{read_setting};
 ghost use Rattle.cache_reader.specs.Going.{moment, is_memory};
-ghost use Rattle.cache_reader.specs.Filling.{Partly, Whole, PartGoes, is_answered, given};
+ghost use Rattle.cache_reader.specs.Filling.{lacks_memory, Partly, Whole, PartGoes, is_answered, given};
 ghost use Rattle.cache_reader.specs.Stored.{gap_stored};
 ghost use Rattle.cache_reader.specs.Holds.{Unfailed};
 ghost use Rattle.cache_reader.specs.Alone.{HeldExactly, SamePolicy, Copies};
@@ -82,7 +82,7 @@ fn read_held<A: Archive, D: CacheDoor<A>, S: BlobSource<A>>(
     ensures fault { IsErrOf result FetchError.Fault → Rose (S.view source.old).faults (S.view source.new).faults }
     ensures turned { result ≡ Ok false → Rose (D.view door.old).work.turned_away (D.view door.new).work.turned_away }
     ensures partly { Partly (read_setting A.tells A.blobs table.now setting.now) (range_end gap - range_start gap)
-        report.old report.new (moment (S.view source.old) (D.view door.old))
+        (lacks_memory result) report.old report.new (moment (S.view source.old) (D.view door.old))
         (moment (S.view source.new) (D.view door.new)) }
     ensures whole { result ≡ Ok true → Whole (read_setting A.tells A.blobs table.now setting.now)
         (range_end gap - range_start gap) report.old report.new (moment (S.view source.old) (D.view door.old))

@@ -3,10 +3,12 @@
 
 mod filling;
 mod held;
+mod laws;
 mod part;
 mod parts;
 mod reader;
 mod report;
 
+pub use laws::{acts_go_on, files_once, mounts_fit, mounts_once, takes_once};
 pub use reader::{Reader, Seen};
 pub use report::Report;

@@ -1,4 +1,4 @@
-use Rattle.std.proofs.Common.{arith, ◌≡◌, ◌+◌, ap, refl, subst, length, Ok, ◌∙◌}
+use Rattle.std.proofs.Common.{arith, ◌≡◌, ◌+◌, ap, refl, subst, length, Bool, Ok, Err, ◌∙◌}
 use Rattle.cache_door.specs.Doors.{HoldView, hold_view, storing}
 use Rattle.std.specs.Prelude.{option_map}
 use Rattle.cache_door.specs.Machine.{hold_at}
@@ -7,6 +7,7 @@ use Rattle.cache_reader.proofs.Fills.{filling_more, partly_refused, partly_fille
 use Rattle.blob_parts.specs.Content.{content, content_places, slice_of}
 use Rattle.blob_parts.specs.Tables.{file_length}
 use Rattle.cache_reader.proofs.Fills.{filling_none}
+use Rattle.cache_reader.proofs.Answered.{failed_fetch}
 use Rattle.cache_reader.proofs.Rooms.{policy_more, policy_same}
 use Rattle.cache_reader.proofs.States.{failed_kept}
 use Rattle.cache_reader.proofs.Stores.{stored_none, stored_more, stored_all, at_rest}
@@ -40,24 +41,26 @@ loop-at-preserved g c =
 pub returns-in-Ok-false-clause-partly : goal.returns-in-Ok-false-clause-partly
 returns-in-Ok-false-clause-partly g c =
     let goes = rw c.in-Ok-false.field-0-test at c.in-Ok-false.ensures.goes in
-    partly_refused _ c.args.file c.args.base c.args.gap.start c.loop-at.at c.min-len.result c.args.gap.end _ _ _ _ _ _ c.loop-at.invariant.low (omega (arith, c.min-len.ensures, c.loop-at.invariant.high))
+    partly_refused _ c.args.file c.args.base c.args.gap.start c.loop-at.at c.min-len.result c.args.gap.end _ _ _ _ _ _ _ c.loop-at.invariant.low (omega (arith, c.min-len.ensures, c.loop-at.invariant.high))
     (λ told. omega (arith, places_are g.A.Archive.blobs c.args.table.now.number c.args.file, c.length-length.ensures.whole told, c.length-length.ensures.value, c.requires.inside))
     c.loop-at.invariant.filled goes
     (door_step _ _ _ _ (g.met.D.CacheDoor.later _ _ c.fail.ensures.stays) c.fail.ensures.unmounted (worked_idle _ _ c.fail.ensures.work)) refl
+    (λ enough calm still. still (c.in-Ok-false.ensures.frame (ap Ok c.in-Ok-false.field-0-test)))
     (λ told. piece_all (g.S.BlobSource.view c.loop-at.source).reads (g.S.BlobSource.view c.store_piece.new.source).reads (content_places g.A.Archive.blobs c.args.table.now.number c.args.file) (c.args.base + c.loop-at.at) c.min-len.result (c.in-Ok-false.ensures.reads told))
 
 pub returns-in-Err-clause-partly : goal.returns-in-Err-clause-partly
 returns-in-Err-clause-partly g c =
-    partly_refused _ c.args.file c.args.base c.args.gap.start c.loop-at.at c.min-len.result c.args.gap.end _ _ _ _ _ _ c.loop-at.invariant.low (omega (arith, c.min-len.ensures, c.loop-at.invariant.high))
+    partly_refused _ c.args.file c.args.base c.args.gap.start c.loop-at.at c.min-len.result c.args.gap.end _ _ _ _ _ _ _ c.loop-at.invariant.low (omega (arith, c.min-len.ensures, c.loop-at.invariant.high))
     (λ told. omega (arith, places_are g.A.Archive.blobs c.args.table.now.number c.args.file, c.length-length.ensures.whole told, c.length-length.ensures.value, c.requires.inside))
     c.loop-at.invariant.filled c.in-Err.ensures.goes
     (door_step _ _ _ _ (g.met.D.CacheDoor.later _ _ c.fail-in-Err.ensures.stays) c.fail-in-Err.ensures.unmounted (worked_idle _ _ c.fail-in-Err.ensures.work)) refl
+    (λ enough calm still. calm (failed_fetch Bool c.in-Err.e _ (λ same. c.in-Err.ensures.fault (ap Err same)) enough))
     (λ told. piece_some (g.S.BlobSource.view c.loop-at.source).reads (g.S.BlobSource.view c.store_piece.new.source).reads (content_places g.A.Archive.blobs c.args.table.now.number c.args.file) (c.args.base + c.loop-at.at) c.min-len.result (c.in-Err.ensures.reads told))
 
 pub returns-clause-partly : goal.returns-clause-partly
 returns-clause-partly g c =
     let e : c.loop-at.at ≡ c.args.gap.end = omega (arith, c.loop-at.invariant.high, c.loop-at-test.false) in
-    partly_filled _ c.args.file c.args.base c.args.gap.start c.args.gap.end _ _ _ _ (omega (arith, c.requires.gap))
+    partly_filled _ c.args.file c.args.base c.args.gap.start c.args.gap.end _ _ _ _ _ (omega (arith, c.requires.gap))
     (λ told. omega (arith, places_are g.A.Archive.blobs c.args.table.now.number c.args.file, c.length-length.ensures.whole told, c.length-length.ensures.value, c.requires.inside))
     (rw e at c.loop-at.invariant.filled)
 

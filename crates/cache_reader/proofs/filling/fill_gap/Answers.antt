@@ -4,7 +4,7 @@ use Rattle.cache_reader.proofs.Rooms.{policy_same}
 use Rattle.cache_reader.proofs.filling.fill_gap.Goals as goal
 
 pub returns-in-None-clause-partly : goal.returns-in-None-clause-partly
-returns-in-None-clause-partly g c = rw c.in-None.is (partly_none _ _ _)
+returns-in-None-clause-partly g c = rw c.in-None.is (partly_none _ _ _ _)
 
 pub returns-in-None-clause-kept : goal.returns-in-None-clause-kept
 returns-in-None-clause-kept g c = policy_same _

@@ -49,7 +49,7 @@ returns-in-Ok-true-clause-bytes g c is told frames =
 
 pub returns-in-Ok-true-clause-partly : goal.returns-in-Ok-true-clause-partly
 returns-in-Ok-true-clause-partly g c =
-    partly_then _ _ _ _ _ _ _ c.fill_gap.ensures.partly (door_step _ (g.S.BlobSource.view c.fill_gap.new.source) _ _ (g.met.D.CacheDoor.later _ _ c.copy_held.ensures.stays) c.copy_held.ensures.unmounted c.copy_held.ensures.work) refl
+    partly_then _ _ _ _ _ _ _ _ c.in-Ok-true.ensures.partly (door_step _ (g.S.BlobSource.view c.fill_gap.new.source) _ _ (g.met.D.CacheDoor.later _ _ c.copy_held.ensures.stays) c.copy_held.ensures.unmounted c.copy_held.ensures.work) refl
 
 pub returns-in-Ok-true-clause-whole : goal.returns-in-Ok-true-clause-whole
 returns-in-Ok-true-clause-whole g c is =
@@ -57,8 +57,8 @@ returns-in-Ok-true-clause-whole g c is =
 
 pub returns-in-Ok-false-clause-partly : goal.returns-in-Ok-false-clause-partly
 returns-in-Ok-false-clause-partly g c =
-    partly_then _ _ _ _ _ _ _ c.fill_gap.ensures.partly (door_step _ (g.S.BlobSource.view c.fill_gap.new.source) _ _ (g.met.D.CacheDoor.later _ _ c.leave.ensures.stays) c.leave.ensures.unmounted (worked_idle _ _ c.leave.ensures.work)) refl
+    partly_then _ _ _ _ _ _ _ _ c.in-Ok-false.ensures.partly (door_step _ (g.S.BlobSource.view c.fill_gap.new.source) _ _ (g.met.D.CacheDoor.later _ _ c.leave.ensures.stays) c.leave.ensures.unmounted (worked_idle _ _ c.leave.ensures.work)) refl
 
 pub returns-in-Err-clause-partly : goal.returns-in-Err-clause-partly
 returns-in-Err-clause-partly g c =
-    partly_then _ _ _ _ _ _ _ c.fill_gap.ensures.partly (door_step _ (g.S.BlobSource.view c.fill_gap.new.source) _ _ (g.met.D.CacheDoor.later _ _ c.leave-in-Err.ensures.stays) c.leave-in-Err.ensures.unmounted (worked_idle _ _ c.leave-in-Err.ensures.work)) refl
+    partly_then _ _ _ _ _ _ _ _ c.in-Err.ensures.partly (door_step _ (g.S.BlobSource.view c.fill_gap.new.source) _ _ (g.met.D.CacheDoor.later _ _ c.leave-in-Err.ensures.stays) c.leave-in-Err.ensures.unmounted (worked_idle _ _ c.leave-in-Err.ensures.work)) refl

@@ -1,9 +1,10 @@
-use Rattle.std.proofs.Common.{arith, ◌-◌, ◌∙◌, false, Err, Some, ap, sym, subst, refl}
+use Rattle.std.proofs.Common.{arith, ◌≡◌, ◌-◌, ◌∙◌, length, false, Err, Some, ap, sym, subst, refl}
 use Rattle.blob_parts.specs.Content.{content_places}
 use Rattle.cache_reader.proofs.Answered.{caused_by, caused_of, refused_of, on_answered, on_refused, piece_of}
 use Rattle.cache_reader.proofs.Joins.{door_step, source_step, worked_idle}
 use Rattle.cache_reader.proofs.Ends.{part_after, part_none, part_direct, partly_of, rose_away, worked_away}
 use Rattle.cache_reader.proofs.Entering.{short_part}
+use Rattle.cache_reader.proofs.Fills.{whole_places}
 use Rattle.blob_parts.specs.Content.{content}
 use Rattle.cache_reader.proofs.Entries.{known_of, entry_answers, exactly_held, exactly_passed, exactly_entered_gone}
 use Rattle.blob_parts.specs.Tables.{file_length}
@@ -61,7 +62,11 @@ returns-in-Ok-NoRoom-clause-part g c =
     (rose_away _ _ work) refl (source_step _ _ _ _ _ c.direct.ensures.source)
     (on_answered c.direct.result _ (rw c.requires.len at c.direct.ensures.report)) (λ e. c.direct.ensures.unreported (on_refused c.direct.result e))
     (refused_of c.direct.result _ c.direct.ensures.source.failed c.direct.ensures.present)
-    (λ told. piece_of c.direct.result _ _ (content_places g.A.Archive.blobs c.args.table.now.number c.args.file) c.args.part.start (c.args.part.end - c.args.part.start) (rw c.requires.len at (c.direct.ensures.reads told)))
+    (λ told.
+    let n = c.args.part.end - c.args.part.start in
+    let size : length c.direct.new.out ≡ n = omega (arith, c.requires.len) in
+    piece_of c.direct.result _ _ (content_places g.A.Archive.blobs c.args.table.now.number c.args.file) c.args.part.start n (rw c.requires.len at (c.direct.ensures.reads told))
+    (λ e. whole_places g.A.Archive.blobs c.args.table.now.number c.args.file c.args.part.start n c.direct.new.out (on_answered c.direct.result _ (rw c.requires.len at (c.direct.ensures.bytes told)) e) size))
 
 pub returns-in-Ok-Gone-clause-part : goal.returns-in-Ok-Gone-clause-part
 returns-in-Ok-Gone-clause-part g c =
