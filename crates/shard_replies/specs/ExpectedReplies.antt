@@ -12,7 +12,7 @@ use Rattle.mount_manifest.specs.declared.record.Segment.{Segment}
 use Rattle.mount_manifest.specs.declared.error.ManifestError.{ManifestError}
 use Rattle.mount_manifest.specs.declared.error.ManifestError.TheVariants as manifest
 use Rattle.blob_parts.specs.Content.{content, manifest_at, part_refusal, PartRefusal, no_part, other_size}
-use Rattle.directory_input.specs.Reads.{slice_of}
+use Rattle.directory_input.specs.Reads.{slice_of, Read as FileRead, one_read}
 use Rattle.simpletext_stored.specs.declared.field.Kind.{Kind}
 use Rattle.simpletext_stored.specs.declared.field.Kind.TheVariants as kind
 use Rattle.simpletext_stored.specs.declared.field.StoredField.{StoredField}
@@ -151,6 +151,18 @@ file_reply bytes at len (Some i) = slice_reply (bytes i) at len
 
 abbrev pub read_reply : (ℕ → List ℕ) → Facts → List ℕ → ℕ → ℕ → Reply
 read_reply bytes f file at len = file_reply bytes at len (file_number f.files file)
+
+-- The reads of a read: the one of that file at that place, where the file is there and the range lies in it; else none.
+-- `lengths` gives each file's length by its number.
+abbrev pub slice_steps : ℕ → ℕ → ℕ → ℕ → List FileRead
+slice_steps file length at len = if nat_lt length (at + len) then [] else one_read file at len
+
+abbrev pub file_steps : (ℕ → ℕ) → ℕ → ℕ → Option ℕ → List FileRead
+file_steps lengths at len None = []
+file_steps lengths at len (Some i) = slice_steps i (lengths i) at len
+
+abbrev pub read_steps : (ℕ → ℕ) → Facts → List ℕ → ℕ → ℕ → List FileRead
+read_steps lengths f file at len = file_steps lengths at len (file_number f.files file)
 
 -- ---- every command
 
