@@ -1,3 +1,4 @@
+pub mod Slots
 pub mod Sums
 pub mod Owns
 pub mod Keeps

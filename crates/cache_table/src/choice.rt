@@ -17,6 +17,7 @@ ghost use Rattle.cache_table.specs.Plays.{Counted};
 ghost use Rattle.cache_table.specs.Calls.{InCache, FoundAll, PassedOver};
 ghost use Rattle.cache_table.specs.Entries.{Scanned, Stands, IsChoice, IsFull, differs};
 
+use crate::boxed::Boxed;
 use crate::cache::{Place, SharedCache};
 use cache_door::Want;
 use cache_outside::{Archive, Frame};
@@ -34,7 +35,7 @@ pub enum Standing {
 }
 
 // A region that nobody holds, in its turn: its number, the word at which the turn was taken, and its cell.
-pub(crate) type Vacant<A, F> = (u32, u64, RegionCell<A, F>);
+pub(crate) type Vacant<A, F> = (u32, u64, Boxed<RegionCell<A, F>>);
 
 impl<A: Archive + Drop, F: Frame + Drop> SharedCache<A, F> {
     // The region's turn, which is kept where nobody holds the region. Else the region is noted as found held.

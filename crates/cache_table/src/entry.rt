@@ -69,17 +69,18 @@ impl<A: Archive + Drop, F: Frame + Drop> SharedCache<A, F> {
         ticket_weights();
         gap_weights();
         let at = region as usize + 1;
-        let (word, mut cell) = self.take_cell(rt, seat, at);
+        let (word, mut boxed) = self.take_cell(rt, seat, at);
+        let cell = boxed.get_mut();
         if word / 256 != want.key.pack() || cell.len() != want.len {
-            self.give_cell(seat, at, word, word, cell, None);
+            self.give_cell(seat, at, word, word, boxed, None);
             return Ok(None);
         }
         if let Err(e) = cell.reserve() {
-            self.give_cell(seat, at, word, word, cell, None);
+            self.give_cell(seat, at, word, word, boxed, None);
             return Err(e);
         }
-        let (hold, gap) = claim(&mut cell, region, want);
-        self.give_cell(seat, at, word, word + 2, cell, Some(hold));
+        let (hold, gap) = claim(cell, region, want);
+        self.give_cell(seat, at, word, word + 2, boxed, Some(hold));
         Ok(Some((Entered::Held { region, gap }, hold)))
     }
 
@@ -159,18 +160,19 @@ impl<A: Archive + Drop, F: Frame + Drop> SharedCache<A, F> {
     {
         ticket_weights();
         gap_weights();
-        let Some((standing, (region, word, mut cell))) = self.choose(
+        let Some((standing, (region, word, mut boxed))) = self.choose(
             rt, seat, policy, want, now, _cache,
         ) else {
             return Ok(None);
         };
         let at = region as usize + 1;
+        let cell = boxed.get_mut();
         if let Err(e) = cell.reserve() {
-            self.give_cell(seat, at, word, word, cell, None);
+            self.give_cell(seat, at, word, word, boxed, None);
             return Err(e);
         }
-        let (hold, gap) = claim_anew(&mut cell, region, want);
-        self.give_cell(seat, at, word, want.key.pack() * 256 + 2, cell, Some(hold));
+        let (hold, gap) = claim_anew(cell, region, want);
+        self.give_cell(seat, at, word, want.key.pack() * 256 + 2, boxed, Some(hold));
         map_chosen(policy, standing, region, want.key, now);
         Ok(Some((Entered::Held { region, gap }, hold)))
     }
@@ -242,13 +244,13 @@ impl<A: Archive + Drop, F: Frame + Drop> SharedCache<A, F> {
         ensures memory { OnErr result (OnlyLeft want.now seat.new.me.0.taken seat.new.me.0.given seat.new.me.0) }
         ensures err { OnErr result ((seat.new.me.0.hold ≡ None) × (seat.new.me.0.gone ≡ seat.old.me.0.gone)) }
     {
-        let (word, mut policy) = self.take_cache(rt, seat);
+        let (word, mut boxed) = self.take_cache(rt, seat);
         if self.is_gone(seat, mount) {
-            self.give_cache(seat, word, policy);
+            self.give_cache(seat, word, boxed);
             return Ok((Entered::Gone, None));
         }
-        let answer = self.enter_key(rt, seat, &mut policy, want, now, word);
-        self.give_cache(seat, word, policy);
+        let answer = self.enter_key(rt, seat, boxed.get_mut(), want, now, word);
+        self.give_cache(seat, word, boxed);
         match answer {
             Err(e) => Err(e),
             Ok(None) => Ok((Entered::NoRoom, None)),

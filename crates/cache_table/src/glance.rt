@@ -13,6 +13,7 @@ ghost use Rattle.cache_table.specs.Rule.{Suits, regions_in};
 ghost use Rattle.cache_table.specs.Plays.{Counted, lost, took_cell};
 ghost use Rattle.cache_table.specs.Calls.{AtRest, Faults, Stays, Glanced};
 
+use crate::boxed::Boxed;
 use crate::cache::{Place, SharedCache};
 use crate::home::Home;
 use cache_door::{Glance, Want, look};
@@ -26,7 +27,7 @@ impl<A: Archive + Drop, F: Frame + Drop> SharedCache<A, F> {
         seat: &mut Place<A, F>,
         at: usize,
         seen: u64,
-    ) -> Result<RegionCell<A, F>, u64>
+    ) -> Result<Boxed<RegionCell<A, F>>, u64>
         requires id { seat.old.table_id ≡ self.now.id }
         requires place { (0 < at) × (at ≤ self.now.about.config.regions) × (seen % 2 ≡ 0) }
         requires may { (0 < seat.old.me.0.shares) × (regions_in seat.old.me.0.turns ≡ 0) }
@@ -79,11 +80,12 @@ impl<A: Archive + Drop, F: Frame + Drop> SharedCache<A, F> {
         }
         match self.try_cell(seat, at, seen) {
             Err(found) => Glance::Busy(found),
-            Ok(mut cell) => {
+            Ok(mut boxed) => {
+                let cell = boxed.get_mut();
                 cell.lesson();
-                let answer = look(&mut cell, want, out);
+                let answer = look(cell, want, out);
                 cell.lesson();
-                self.give_cell(seat, at, seen, seen, cell, None);
+                self.give_cell(seat, at, seen, seen, boxed, None);
                 answer
             }
         }

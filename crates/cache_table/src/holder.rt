@@ -46,10 +46,11 @@ impl<A: Archive + Drop, F: Frame + Drop> SharedCache<A, F> {
             hold.now.sub.start (hold.now.sub.end - hold.now.sub.start) }
     {
         let at = hold.region as usize + 1;
-        let (word, mut cell) = self.take_cell(rt, seat, at);
+        let (word, mut boxed) = self.take_cell(rt, seat, at);
+        let cell = boxed.get_mut();
         let taken = cell.copy(hold.ticket, out);
         cell.lesson();
-        self.give_cell(seat, at, word, word, cell, Some(*hold));
+        self.give_cell(seat, at, word, word, boxed, Some(*hold));
         taken
     }
 
@@ -115,18 +116,19 @@ impl<A: Archive + Drop, F: Frame + Drop> SharedCache<A, F> {
         ticket_weights();
         gap_weights();
         let at = hold.region as usize + 1;
-        let (word, mut cell) = self.take_cell(rt, seat, at);
+        let (word, mut boxed) = self.take_cell(rt, seat, at);
+        let cell = boxed.get_mut();
         cell.lesson();
         match cell.store(hold.gap.id, piece) {
             Ok(()) => {
                 cell.lesson();
                 *hold = stored(*hold, piece.bytes().len() as u64);
-                self.give_cell(seat, at, word, word, cell, Some(*hold));
+                self.give_cell(seat, at, word, word, boxed, Some(*hold));
                 Ok(())
             }
             Err(FrameFault) => {
                 cell.lesson();
-                self.give_cell(seat, at, word, word, cell, Some(*hold));
+                self.give_cell(seat, at, word, word, boxed, Some(*hold));
                 Err(FrameFault)
             }
         }
@@ -148,12 +150,13 @@ impl<A: Archive + Drop, F: Frame + Drop> SharedCache<A, F> {
         ticket_weights();
         gap_weights();
         let at = hold.region as usize + 1;
-        let (word, mut cell) = self.take_cell(rt, seat, at);
+        let (word, mut boxed) = self.take_cell(rt, seat, at);
+        let cell = boxed.get_mut();
         cell.lesson();
         cell.fail(hold.gap.id);
         cell.lesson();
         hold.gap = closed();
-        self.give_cell(seat, at, word, word, cell, Some(*hold));
+        self.give_cell(seat, at, word, word, boxed, Some(*hold));
     }
 
     pub(crate) fn leave_seat<R: Wait>(&self, rt: &R, seat: &mut Place<A, F>, hold: &Hold)
@@ -171,11 +174,12 @@ impl<A: Archive + Drop, F: Frame + Drop> SharedCache<A, F> {
         ticket_weights();
         gap_weights();
         let at = hold.region as usize + 1;
-        let (word, mut cell) = self.take_cell(rt, seat, at);
+        let (word, mut boxed) = self.take_cell(rt, seat, at);
+        let cell = boxed.get_mut();
         cell.lesson();
         cell.leave(hold.ticket);
         cell.lesson();
-        self.give_cell(seat, at, word, word - 2, cell, None);
+        self.give_cell(seat, at, word, word - 2, boxed, None);
     }
 }
 

@@ -1,13 +1,15 @@
 //! What the slots of the table hold.
+use crate::boxed::Boxed;
 use cache_outside::{Archive, Frame};
 use cache_policy::Policy;
 use region_cell::RegionCell;
 
-/// What a slot holds: slot 0 the policy, slot r + 1 the cell of region r.
+/// What a slot holds: slot 0 the policy, slot r + 1 the cell of region r. Each has memory of its own, so that a turn
+/// moves pointers alone.
 #[derive(Drop)]
 pub enum Home<A: Archive, F: Frame> {
-    Policy(Policy),
-    Cell(RegionCell<A, F>),
+    Policy(Boxed<Policy>),
+    Cell(Boxed<RegionCell<A, F>>),
     /// It is out with the pass that has the turn.
     Away,
 }

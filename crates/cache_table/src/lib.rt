@@ -3,6 +3,7 @@
 #![tactic(auto)]
 
 mod between;
+mod boxed;
 mod cache;
 mod calls;
 mod choice;
@@ -25,6 +26,7 @@ mod turns;
 mod view;
 
 pub use between::{BetweenSteps, kept_between};
+pub use boxed::Boxed;
 pub use cache::{SharedCache, cache_crosses};
 pub use door::TableDoor;
 pub use home::{Home, home_crosses};

@@ -10,6 +10,7 @@ ghost use Rattle.cache_table.specs.Rule.{newcomer, Suits};
 ghost use Rattle.cache_table.specs.Calls.{AreCells};
 ghost use Rattle.cache_table.specs.Views.{IsOf};
 
+use crate::boxed::Boxed;
 use crate::cache::SharedCache;
 use crate::home::Home;
 use crate::key::Key;
@@ -77,10 +78,12 @@ fn slots_of<A: Archive + Drop, F: Frame + Drop>(
     let mut slots = Vec::new(alloc);
     let policy = Policy::new(alloc, &key.config)?;
     policy.lesson();
+    let policy = Boxed::new(alloc, policy)?;
     slots.push(Home::Policy(policy))?;
     for frame in frames {
         let cell = cell_of(alloc, key, frame);
-        slots.push(Home::Cell(cell))?;
+        let boxed = Boxed::new(alloc, cell)?;
+        slots.push(Home::Cell(boxed))?;
     }
     Ok(slots)
 }

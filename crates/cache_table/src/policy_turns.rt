@@ -23,10 +23,11 @@ impl<A: Archive + Drop, F: Frame + Drop> SharedCache<A, F> {
         ensures policy { (seat.new.me.0.cache_turns ≡ seat.old.me.0.cache_turns + 1)
             × (seat.new.me.0.given ≡ decay now seat.new.me.0.taken) }
     {
-        let (word, mut policy) = self.take_cache(rt, seat);
+        let (word, mut boxed) = self.take_cache(rt, seat);
+        let policy = boxed.get_mut();
         policy.decay(now);
         policy.lesson();
-        self.give_cache(seat, word, policy);
+        self.give_cache(seat, word, boxed);
     }
 
     // One turn of the cache: the manifest's regions leave, and those that nobody holds are settled.
@@ -41,11 +42,12 @@ impl<A: Archive + Drop, F: Frame + Drop> SharedCache<A, F> {
         ensures policy { (seat.new.me.0.cache_turns ≡ seat.old.me.0.cache_turns + 1)
             × ((rs : List ℕ) × (seat.new.me.0.given ≡ settle_all rs (clear manifest seat.new.me.0.taken))) }
     {
-        let (word, mut policy) = self.take_cache(rt, seat);
+        let (word, mut boxed) = self.take_cache(rt, seat);
+        let policy = boxed.get_mut();
         policy.clear(manifest);
         policy.lesson();
-        self.settle_unheld(seat, &mut policy, word);
-        self.give_cache(seat, word, policy);
+        self.settle_unheld(seat, policy, word);
+        self.give_cache(seat, word, boxed);
     }
 
     fn settle_unheld(&self, seat: &mut Place<A, F>, policy: &mut Policy, _cache: u64)

@@ -10,6 +10,7 @@ ghost use Rattle.cache_table.specs.Rule.{Governs, Suits, at_of, tag_held, tag_of
 ghost use Rattle.cache_table.specs.Plays.{Changes, Moves, popped, Counted, HasHolds, lost, took_cell, faulted};
 ghost use Rattle.cache_table.specs.Calls.{OnTop, InHand, Stays, SameCacheTurn};
 
+use crate::boxed::Boxed;
 use crate::cache::{Place, SharedCache};
 use crate::home::Home;
 use cache_door::Hold;
@@ -21,7 +22,7 @@ use std::sync::Wait;
 
 impl<A: Archive + Drop, F: Frame + Drop> SharedCache<A, F> {
     // The cache's turn, and the policy, which is out until it is given.
-    pub(crate) fn take_cache<R: Wait>(&self, rt: &R, seat: &mut Place<A, F>) -> (u64, Policy)
+    pub(crate) fn take_cache<R: Wait>(&self, rt: &R, seat: &mut Place<A, F>) -> (u64, Boxed<Policy>)
         requires id { seat.old.table_id ≡ self.now.id }
         requires may { (0 < seat.old.me.0.shares) × (seat.old.me.0.turns ≡ []) }
         requires about { seat.old.me.0.about ≡ self.now.about }
@@ -48,7 +49,7 @@ impl<A: Archive + Drop, F: Frame + Drop> SharedCache<A, F> {
     }
 
     // It leaves the hold as it is.
-    pub(crate) fn give_cache(&self, seat: &mut Place<A, F>, word: u64, policy: Policy)
+    pub(crate) fn give_cache(&self, seat: &mut Place<A, F>, word: u64, policy: Boxed<Policy>)
         requires id { seat.old.table_id ≡ self.now.id }
         requires place { word % 2 ≡ 0 }
         requires turn { OnTop 0 word seat.old.me.0 }
@@ -78,7 +79,7 @@ impl<A: Archive + Drop, F: Frame + Drop> SharedCache<A, F> {
         rt: &R,
         seat: &mut Place<A, F>,
         at: usize,
-    ) -> (u64, RegionCell<A, F>)
+    ) -> (u64, Boxed<RegionCell<A, F>>)
         requires id { seat.old.table_id ≡ self.now.id }
         requires place { (0 < at) × (at ≤ self.now.about.config.regions) }
         requires may { (0 < seat.old.me.0.shares) × (regions_in seat.old.me.0.turns ≡ 0) }
@@ -118,7 +119,7 @@ impl<A: Archive + Drop, F: Frame + Drop> SharedCache<A, F> {
         at: usize,
         word: u64,
         new: u64,
-        cell: RegionCell<A, F>,
+        cell: Boxed<RegionCell<A, F>>,
         _hold: Option<Hold>,
     )
         requires id { seat.old.table_id ≡ self.now.id }

@@ -12,5 +12,6 @@ loop-frame-preserved g c =
     let a = about_of g.F.Frame.view c.args.key.now in
     let n = length (c.loop-frame.yielded ++ c.in-Some.frame ∷ []) in
     subst (λ (l : List (Home g.row.A.Denot g.row.F.Denot)). AreCells g.A.Archive.tells (content g.A.Archive.blobs) a n l) (sym c.in_ok-push-2.ensures.items)
-    (cells_more g.A.Archive.tells (content g.A.Archive.blobs) g.row.A.Denot g.row.F.Denot a (length c.loop-frame.yielded) n c.loop-frame.slots.items c.cell_of-cell.result
-    (length-append c.loop-frame.yielded (c.in-Some.frame ∷ [])) c.loop-frame.invariant c.cell_of-cell.ensures.suits c.cell_of-cell.ensures.unclaimed)
+    (cells_more g.A.Archive.tells (content g.A.Archive.blobs) g.row.A.Denot g.row.F.Denot a (length c.loop-frame.yielded) n c.loop-frame.slots.items c.in_ok-boxed.boxed
+    (length-append c.loop-frame.yielded (c.in-Some.frame ∷ [])) c.loop-frame.invariant
+    (rw c.in_ok-boxed.ensures c.cell_of-cell.ensures.suits) (rw c.in_ok-boxed.ensures c.cell_of-cell.ensures.unclaimed))

@@ -10,6 +10,6 @@ pub give_cell-requires-2-clause-moves : goal.give_cell-requires-2-clause-moves
 give_cell-requires-2-clause-moves g c =
     let e = c.take_cell-word.ensures in let k = c.claim-gap.ensures in let x = c.take_cell-word.result.1 in
     let y = c.reserve.new.self in
-    let same : y.metadata ≡ x.metadata = ap (λ (v : CellView). v.metadata) c.in_default.ensures.ok in
+    let same : y.metadata ≡ x.metadata = ap (λ (v : CellView). v.metadata) c.in_default.ensures.ok ∙ ap (λ (v : CellView). v.metadata) c.get_mut-cell.ensures.value in
     moves_as (c.args.region + 1) (e.hold ∙ c.requires.free) (ap (λ (h : Hold). Some h) k.hold) (ap (λ (n : CellMetadata). n.region.tracker) (sym e.cell.0 ∙ sym same)) (ap (λ (v : CellView). v.metadata.region.tracker) k.cell)
     (moves_claimed c.ticket_weights.ensures c.gap_weights.ensures (c.args.region + 1) y.metadata.range c.args.region c.args.want.now y.metadata.region refl (some_run _ _ _ _ _ k.gap k.inside))

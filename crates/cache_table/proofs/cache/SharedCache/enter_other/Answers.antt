@@ -22,15 +22,15 @@ give_cell-requires-2-clause-changes g c = let h = c.claim_anew-gap.ensures.hold 
 
 pub give_cell-requires-2-clause-moves : goal.give_cell-requires-2-clause-moves
 give_cell-requires-2-clause-moves g c =
-    let k = c.claim_anew-gap.ensures in let x = c.in-Some.cell in let y = c.reserve.new.self in let e = c.in-Some.ensures.cell in
+    let k = c.claim_anew-gap.ensures in let x = c.in-Some.boxed in let y = c.reserve.new.self in let e = c.in-Some.ensures.cell in
     moves_as (c.in-Some.region + 1) c.choose.ensures.hold (ap (λ (h : Hold). Some h) k.hold) (ap (λ (n : CellMetadata). n.region.tracker) (sym e.2)) (ap (λ (v : CellView). v.metadata.region.tracker) k.cell)
     (moves_fresh c.ticket_weights.ensures c.gap_weights.ensures (c.in-Some.region + 1) y.metadata.range c.in-Some.region c.args.want.now x.metadata.region.tracker (blank c.args.want.now) refl (e.4.none e.1) (refl, refl) (some_run _ _ _ _ _ k.gap k.inside))
 
 pub returns-clause-within : goal.returns-clause-within
 returns-clause-within g c =
     let t = c.requires.turn in let s = c.choose.ensures.scanned in let e = c.give_cell-2.ensures in let m = c.args.seat.now.me.0 in let n = c.choose.new.seat.me.0 in
-    let w = c.give_cell-2.new.seat.me.0 in let x = c.in-Some.cell in let cell = c.in-Some.ensures.cell in
-    let same : c.reserve.new.self.metadata ≡ x.metadata = ap (λ (v : CellView). v.metadata) c.in_default-reserve.ensures.ok in
+    let w = c.give_cell-2.new.seat.me.0 in let x = c.in-Some.boxed in let cell = c.in-Some.ensures.cell in
+    let same : c.reserve.new.self.metadata ≡ x.metadata = ap (λ (v : CellView). v.metadata) c.in_default-reserve.ensures.ok ∙ ap (λ (v : CellView). v.metadata) c.get_mut-cell.ensures.value in
     record {
       turn = record {
         turns = e.turn ∙ ap popped c.in-Some.ensures.turn.0 ∙ t.turns;
@@ -53,13 +53,13 @@ returns-clause-within g c =
 pub returns-clause-held : goal.returns-clause-held
 returns-clause-held g c =
     let k = c.claim_anew-gap.ensures in let y = c.reserve.new.self in
-    let range : y.metadata.range ≡ c.args.self.now.about.config.range = ap (λ (v : CellView). v.metadata.range) c.in_default-reserve.ensures.ok ∙ c.in-Some.ensures.cell.3.range in
+    let range : y.metadata.range ≡ c.args.self.now.about.config.range = ap (λ (v : CellView). v.metadata.range) c.in_default-reserve.ensures.ok ∙ ap (λ (v : CellView). v.metadata.range) c.get_mut-cell.ensures.value ∙ c.in-Some.ensures.cell.3.range in
     held_new c.args.self.now.about c.args.want.now c.in-Some.region y.metadata.range c.claim_anew-gap.result.0 c.claim_anew-gap.result.1 (blank c.args.want.now) k.hold k.gap range c.in-Some.ensures.place k.inside
 
 pub returns-clause-chosen : goal.returns-clause-chosen
 returns-clause-chosen g c =
     let want = c.args.want.now in let r = c.in-Some.region in
-    let range : c.reserve.new.self.metadata.range ≡ c.args.self.now.about.config.range = ap (λ (v : CellView). v.metadata.range) c.in_default-reserve.ensures.ok ∙ c.in-Some.ensures.cell.3.range in (
+    let range : c.reserve.new.self.metadata.range ≡ c.args.self.now.about.config.range = ap (λ (v : CellView). v.metadata.range) c.in_default-reserve.ensures.ok ∙ ap (λ (v : CellView). v.metadata.range) c.get_mut-cell.ensures.value ∙ c.in-Some.ensures.cell.3.range in (
       subst (λ (l : List ℕ). IsChoice r c.args.policy.now l) (sym c.give_cell-2.ensures.note.0) c.in-Some.ensures.choice,
       c.claim_anew-gap.ensures.gap ∙ ap (λ (n : ℕ). claim_run n want.sub (blank want)) range,
       λ s. c.map_chosen.ensures.tags s ∙ ap (λ (z : PolicyView). if s == r then Some (key_tag want.key) else tag_at z s) c.choose.ensures.passed.1,
