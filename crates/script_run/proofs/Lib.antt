@@ -5,6 +5,11 @@ pub mod Carried
 pub mod KeptShelves
 pub mod Blocks
 pub mod Counts
+pub mod Steps
+pub mod Counted
+pub mod Exact
+pub mod Acts
+pub mod RunBytes
 pub mod Runs
 pub mod Scripts
 pub mod News

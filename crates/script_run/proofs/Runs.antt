@@ -1,6 +1,6 @@
 -- A run, block after block.
 use Rattle.std.proofs.Common.{◌≡◌, ◌∙◌, ◌≤◌, ◌+◌, ℕ, zero, suc, Bool, true, false, List, [], ◌∷◌, ◌++◌, length, take, drop, sym, subst, ap, refl, arith}
-use Rattle.std.specs.Prelude.{IsTrue, Option, Some, None, option_map, ◌||◌, ◌&&◌, slice_get, slice_index_or}
+use Rattle.std.specs.Prelude.{IsTrue, IfSome, Option, Some, None, option_map, ◌||◌, ◌&&◌, slice_get, slice_index_or}
 use Rattle.std.specs.List.{list_any}
 use Rattle.std.proofs.Math.Nat.{le_refl, le_trans}
 use Rattle.std.proofs.Math.Seq.{take-length}
@@ -8,14 +8,15 @@ use Rattle.std.proofs.lemmas.List.{append_assoc, append-nil, take_more, take-app
 use Rattle.std.proofs.lemmas.List.Folds.{list_any-append}
 use Rattle.std.proofs.lemmas.Option.{get_or_from_slice_get, slice_get_within}
 use Rattle.byte_text.specs.Counts.{Rose}
-use Rattle.cache_outside.specs.Clocks.{ClockView, times_after}
+use Rattle.cache_outside.specs.Clocks.{ClockView, first_time, times_after}
+use Rattle.region_ranges.specs.declared.keys.Config.{Config}
 use Rattle.cache_outside.specs.Listing.{Listing}
 use Rattle.cache_outside.specs.Sinks.{SinkView, behind}
 use Rattle.cache_outside.specs.Sources.{SourceView}
 use Rattle.index_mounts.specs.Rosters.{RosterView, no_mounts}
 use Rattle.cache_door.specs.declared.hold.Hold.{Hold}
 use Rattle.cache_door.specs.Doors.{hold_view}
-use Rattle.cache_door.specs.Cores.{CoreView, all_tell}
+use Rattle.cache_door.specs.Cores.{CoreView, all_tell, state_of}
 use Rattle.cache_door.specs.Stays.{later_same, later_on}
 use Rattle.mount_script.specs.declared.command.Command.{Command}
 use Rattle.mount_script.specs.declared.command.Command.TheVariants.{Mount, Unmount, Clear, Decay, Stats, Search, Fetch, Read}
@@ -27,15 +28,20 @@ use Rattle.script_run.specs.Mounting.{mounts_of, after_block, after_blocks, noth
 use Rattle.script_run.specs.Allowed.{RunSetting, Allowed, AllowedFrom, AllowedBlock, AllowedRun, IsPlain, near_lines, faults_of, run_faults, Bears, is_mark, is_memory, some_reply}
 use Rattle.script_run.specs.Texts.{block_text, run_text}
 use Rattle.script_run.specs.Clocks.{times_asked}
-use Rattle.script_run.specs.Counters.{all_replies, numbers_of}
+use Rattle.script_run.specs.Counters.{all_replies}
 use Rattle.script_run.specs.declared.sums.Sums.{Sums}
 use Rattle.script_run.specs.declared.ended.Ended.{Ended}
 use Rattle.script_run.specs.declared.ended.Ended.TheVariants.{Done, SinkFault, NoMemory}
-use Rattle.script_run.specs.Lines.{no_sums}
-use Rattle.script_run.specs.Blocks.{alone, IsIdle, IsNew, IsBlock, UnmountedIn, SumsLater, BlockRan, BlockStats, StatsFit, RunSoFar, WrittenSoFar}
-use Rattle.script_run.specs.Runs.{IsRun, IsFront, EndsBy, outside}
+use Rattle.script_run.specs.Lines.{Cached, no_sums}
+use Rattle.script_run.specs.Blocks.{alone, IsIdle, IsNew, IsFirst, IsBlock, UnmountedIn, SumsLater, BlockRan, BlockStats, BlockWent, RunWent, Point, point, StatsFit, RunSoFar, WrittenSoFar}
+use Rattle.script_run.specs.Runs.{IsRun, IsFront, EndsBy, outside, core_seen}
 use Rattle.script_run.proofs.Behind.{written_more, front_more, behind_nothing}
 use Rattle.script_run.proofs.Blocks.{bears_none}
+pub use Rattle.cache_door.specs.Good.{Good}
+use Rattle.script_run.specs.Room.{OnceLaws}
+use Rattle.script_run.proofs.Steps.{count_more}
+use Rattle.script_run.proofs.Steps.{went_none, went_more}
+use Rattle.script_run.proofs.RunBytes.{run_took}
 use Rattle.script_run.proofs.Counts.{fit_more, fit_new, fit_rises, counters_rise}
 
 -- ---- what is mounted matters only where it is told
@@ -113,10 +119,6 @@ asked_more : (n : ℕ) (times : List ℕ) → times_asked n (times_after times) 
 asked_more zero times = refl
 asked_more (suc n) times = asked_more n (times_after times)
 
-pub count_more : (bs : List (List Line)) (b : List Line) → length (bs ++ b ∷ []) ≡ suc (length bs)
-count_more [] b = refl
-count_more (c ∷ bs) b = ap suc (count_more bs b)
-
 pub many_more : (xss : List (List Reply)) (xs : List Reply) → length (xss ++ xs ∷ []) ≡ suc (length xss)
 many_more [] xs = refl
 many_more (ys ∷ xss) xs = ap suc (many_more xss xs)
@@ -177,12 +179,14 @@ run_new s r sums a t v none fetched direct new idle unmounted = record {
     by_cases (Some times) = refl
 
 -- before the first block
-pub started : (s : RunSetting) (r : RosterView) (sums : Sums) (a : SourceView) (t : Option (List ℕ)) (v : CoreView) (x : SinkView) → r ≡ no_mounts → sums ≡ no_sums → IsNew v
-    → WrittenSoFar s [] r sums false false a a t t v v x x
-started s r sums a t v x e f new = record {
+pub started : {tells : Bool} {contents : ℕ → ℕ → List ℕ} (c : Cached) (s : RunSetting) (r : RosterView) (sums : Sums) (a : SourceView) (t : Option (List ℕ)) (v : CoreView) (x : SinkView) → r ≡ no_mounts → sums ≡ no_sums → IsNew v → v.config ≡ c.config → OnceLaws c.blobs → Good tells contents (state_of v)
+    → WrittenSoFar c s [] r sums false false a a t t v v x x
+started c s r sums a t v x e f new setting laws good = record {
   replies = [];
   ran = run_new s r sums a t v (λ k. ap mounts_of e) (ap (λ (n : Sums). n.fetched) f) (ap (λ (n : Sums). n.direct) f) new idle
       (subst (λ (q : RosterView). UnmountedIn q [] v) (sym e) (record { names = λ name m is gone. absurd (cc); numbers = λ n past. new.mounts n }));
+  went = subst (λ (n : Sums). RunWent c [] [] r t (point a v no_sums) (point a v n)) (sym f)
+      (went_none c r t (point a v no_sums) e (subst (λ (g : Config). IsFirst g (state_of v)) setting new.first) laws good);
   written = behind_nothing x.written;
   faults = le_refl x.faults;
   marks = refl;
@@ -207,9 +211,10 @@ front_all old now text h = (length text, h ∙ ap (behind old) (sym (take-length
 pub next_blocks : (bs : List (List Line)) (i : ℕ) (b : List Line) → slice_get bs i ≡ Some b → take (i + 1) bs ≡ take i bs ++ b ∷ []
 next_blocks bs i b h = take_more bs i b (slice_get_within bs i b h) ∙ ap (λ (c : List Line). take i bs ++ c ∷ []) (get_or_from_slice_get bs i b b h)
 
-pub ended : (s : RunSetting) (script blocks rest : List (List Line)) (replies : List (List Reply)) (r : RosterView) (sums : Sums) (a b : SourceView) (x y : SinkView) (t u : ClockView) (v w : CoreView) (end : Ended)
-    → script ≡ blocks ++ rest → RunSoFar s blocks replies r sums a b t.times u.times v w → EndsBy blocks rest replies x y end → IsRun s script (outside a x t) (outside b y u) (numbers_of w.policy) end
-ended s script blocks rest replies r sums a b x y t u v w end all h ends = record {
+pub ended : (e : Cached) (s : RunSetting) (script blocks rest : List (List Line)) (replies : List (List Reply)) (r : RosterView) (sums : Sums) (a b : SourceView) (x y : SinkView) (t u : ClockView) (v w : CoreView) (end : Ended)
+    → script ≡ blocks ++ rest → RunSoFar s blocks replies r sums a b t.times u.times v w → RunWent e blocks replies r t.times (point a v no_sums) (point b w sums) → EndsBy blocks rest replies x y end
+    → IsRun e s script (outside a x t) (outside b y u) (core_seen v w) end
+ended e s script blocks rest replies r sums a b x y t u v w end all h went ends = record {
   blocks = blocks;
   rest = rest;
   all = all;
@@ -220,67 +225,71 @@ ended s script blocks rest replies r sums a b x y t u v w end all h ends = recor
   ends = ends;
   clock = h.clock;
   stats = record { rise = fit_rises w.policy sums (all_replies replies) h.stats; below = h.stats.below; last = λ d. h.stats.last };
+  took = λ told. run_took e blocks replies r a b v w sums x y t u told went;
 }
 
 pub rose_on : (a b c : ℕ) → a ≤ b → Rose b c → Rose a c
 rose_on a b c h k = omega (arith, h, k)
 
 -- one block more was written
-pub written_block : (tells frames : Bool) (blobs : Listing) (regions : ℕ) (script : List (List Line)) (i : ℕ) (r q : RosterView) (sums sums' : Sums) (marked lacking also too : Bool) (a b c : SourceView) (t u d : Option (List ℕ))
+pub written_block : (e : Cached) (now : ℕ) (tells frames : Bool) (blobs : Listing) (regions : ℕ) (script : List (List Line)) (i : ℕ) (r q : RosterView) (sums sums' : Sums) (marked lacking also too : Bool) (a b c : SourceView) (t u d : Option (List ℕ))
     (v w y : CoreView) (x k z : SinkView) (block : List Line) (xs : List Reply) → all_tell v.cells ≡ frames → IsNew v → IsBlock block → slice_get script i ≡ Some block
-    → WrittenSoFar (alone (tells && frames) blobs regions) (take i script) r sums marked lacking a b t u v w x k → d ≡ option_map times_after u
-    → BlockRan (alone (tells && all_tell w.cells) blobs regions) r q block xs b c w y → BlockStats w y sums sums' xs → SumsLater sums sums'
+    → WrittenSoFar e (alone (tells && frames) blobs regions) (take i script) r sums marked lacking a b t u v w x k → d ≡ option_map times_after u → IfSome u (λ ts. now ≡ first_time ts)
+    → BlockRan (alone (tells && all_tell w.cells) blobs regions) r q block xs b c w y → BlockStats w y sums sums' xs → SumsLater sums sums' → BlockWent e now r q block xs (point b w sums) (point c y sums')
     → also ≡ (marked || list_any is_mark xs) → too ≡ (lacking || list_any is_memory xs) → z.written ≡ behind k.written (block_text block xs) → k.faults ≤ z.faults
-    → WrittenSoFar (alone (tells && frames) blobs regions) (take (i + 1) script) q sums' also too a c t d v y x z
-written_block tells frames blobs regions script i r q sums sums' marked lacking also too a b c t u d v w y x k z block xs told new some there h asked g stats later m l whole faults =
+    → WrittenSoFar e (alone (tells && frames) blobs regions) (take (i + 1) script) q sums' also too a c t d v y x z
+written_block e now tells frames blobs regions script i r q sums sums' marked lacking also too a b c t u d v w y x k z block xs told new some there h asked answered g stats later went m l whole faults =
     let s = alone (tells && frames) blobs regions in
-    let P : List (List Line) → Type 0 = λ bs. WrittenSoFar s bs q sums' also too a c t d v y x z in
+    let P : List (List Line) → Type 0 = λ bs. WrittenSoFar e s bs q sums' also too a c t d v y x z in
     subst P (sym (next_blocks script i block there)) (record {
       replies = h.replies ++ xs ∷ [];
       ran = run_more tells frames blobs regions (take i script) h.replies r q sums sums' a b c t u d v w y block xs told new some h.ran asked g stats later;
+      went = went_more e (take i script) h.replies r q t u (point a v no_sums) (point b w sums) (point c y sums') now block xs h.went h.ran.clock answered went;
       written = written_more x.written k.written z.written (run_text (take i script) h.replies) (block_text block xs) h.written whole ∙ ap (behind x.written) (sym (text_more (take i script) h.replies block xs h.ran.many));
       faults = le_trans h.faults faults;
       marks = m ∙ ap (λ (b : Bool). b || list_any is_mark xs) h.marks ∙ sym (some_more is_mark h.replies xs);
       lacks = l ∙ ap (λ (b : Bool). b || list_any is_memory xs) h.lacks ∙ sym (some_more is_memory h.replies xs);
     })
 
-module _ (tells frames : Bool) (blobs : Listing) (regions : ℕ) (script : List (List Line)) (i : ℕ) (r q : RosterView) (sums sums' : Sums) (marked lacking : Bool) (a b c : SourceView) (t u d : ClockView)
+module _ (e : Cached) (now : ℕ) (tells frames : Bool) (blobs : Listing) (regions : ℕ) (script : List (List Line)) (i : ℕ) (r q : RosterView) (sums sums' : Sums) (marked lacking : Bool) (a b c : SourceView) (t u d : ClockView)
     (v w y : CoreView) (x k z : SinkView) (block : List Line) (xs : List Reply) (told : all_tell v.cells ≡ frames) (new : IsNew v) (some : IsBlock block) (there : slice_get script i ≡ Some block)
-    (h : WrittenSoFar (alone (tells && frames) blobs regions) (take i script) r sums marked lacking a b t.times u.times v w x k) (asked : d.times ≡ option_map times_after u.times)
-    (g : BlockRan (alone (tells && all_tell w.cells) blobs regions) r q block xs b c w y) (stats : BlockStats w y sums sums' xs) (later : SumsLater sums sums')
+    (h : WrittenSoFar e (alone (tells && frames) blobs regions) (take i script) r sums marked lacking a b t.times u.times v w x k) (asked : d.times ≡ option_map times_after u.times)
+    (answered : IfSome u.times (λ ts. now ≡ first_time ts)) (g : BlockRan (alone (tells && all_tell w.cells) blobs regions) r q block xs b c w y) (stats : BlockStats w y sums sums' xs) (later : SumsLater sums sums')
+    (went : BlockWent e now r q block xs (point b w sums) (point c y sums'))
     (front : IsFront k.written z.written (block_text block xs)) where
   cut_front : IsFront x.written z.written (run_text (take i script ++ block ∷ []) (h.replies ++ xs ∷ []))
   cut_front = subst (IsFront x.written z.written) (sym (text_more (take i script) h.replies block xs h.ran.many)) (front_more x.written k.written z.written (run_text (take i script) h.replies) (block_text block xs) h.written front)
 
   cut_run : (end : Ended) → EndsBy (take i script ++ block ∷ []) (drop (i + 1) script) (h.replies ++ xs ∷ []) x z end
-      → IsRun (alone (tells && frames) blobs regions) script (outside a x t) (outside c z d) (numbers_of y.policy) end
+      → IsRun e (alone (tells && frames) blobs regions) script (outside a x t) (outside c z d) (core_seen v y) end
   cut_run end ends =
       let s = alone (tells && frames) blobs regions in
       let ran = run_more tells frames blobs regions (take i script) h.replies r q sums sums' a b c t.times u.times d.times v w y block xs told new some h.ran asked g stats later in
       let all : script ≡ (take i script ++ block ∷ []) ++ drop (i + 1) script = sym (take-append-drop (i + 1) script) ∙ ap (λ (bs : List (List Line)). bs ++ drop (i + 1) script) (next_blocks script i block there) in
-      ended s script (take i script ++ block ∷ []) (drop (i + 1) script) (h.replies ++ xs ∷ []) q sums' a c x z t d v y end all ran ends
+      let more = went_more e (take i script) h.replies r q t.times u.times (point a v no_sums) (point b w sums) (point c y sums') now block xs h.went h.ran.clock answered went in
+      ended e s script (take i script ++ block ∷ []) (drop (i + 1) script) (h.replies ++ xs ∷ []) q sums' a c x z t d v y end all ran more ends
 
   -- the sink failed
-  pub cut_fault : Rose k.faults z.faults → IsRun (alone (tells && frames) blobs regions) script (outside a x t) (outside c z d) (numbers_of y.policy) SinkFault
+  pub cut_fault : Rose k.faults z.faults → IsRun e (alone (tells && frames) blobs regions) script (outside a x t) (outside c z d) (core_seen v y) SinkFault
   cut_fault rose = cut_run SinkFault (cut_front, rose_on x.faults k.faults z.faults h.faults rose)
 
   -- memory was wanted for a text
-  pub cut_memory : IsRun (alone (tells && frames) blobs regions) script (outside a x t) (outside c z d) (numbers_of y.policy) NoMemory
+  pub cut_memory : IsRun e (alone (tells && frames) blobs regions) script (outside a x t) (outside c z d) (core_seen v y) NoMemory
   cut_memory = cut_run NoMemory cut_front
 
 -- memory was wanted before a block began
-pub stopped : (s : RunSetting) (script : List (List Line)) (i : ℕ) (r : RosterView) (sums : Sums) (marked lacking : Bool) (a b : SourceView) (t u : ClockView) (v w : CoreView) (x y : SinkView)
-    → WrittenSoFar s (take i script) r sums marked lacking a b t.times u.times v w x y → IsRun s script (outside a x t) (outside b y u) (numbers_of w.policy) NoMemory
-stopped s script i r sums marked lacking a b t u v w x y h =
-    ended s script (take i script) (drop i script) h.replies r sums a b x y t u v w NoMemory (sym (take-append-drop i script)) h.ran (front_all x.written y.written (run_text (take i script) h.replies) h.written)
+pub stopped : (e : Cached) (s : RunSetting) (script : List (List Line)) (i : ℕ) (r : RosterView) (sums : Sums) (marked lacking : Bool) (a b : SourceView) (t u : ClockView) (v w : CoreView) (x y : SinkView)
+    → WrittenSoFar e s (take i script) r sums marked lacking a b t.times u.times v w x y → IsRun e s script (outside a x t) (outside b y u) (core_seen v w) NoMemory
+stopped e s script i r sums marked lacking a b t u v w x y h =
+    ended e s script (take i script) (drop i script) h.replies r sums a b x y t u v w NoMemory (sym (take-append-drop i script)) h.ran h.went (front_all x.written y.written (run_text (take i script) h.replies) h.written)
 
 pub whole : (script : List (List Line)) (i : ℕ) → i ≡ length script → take i script ≡ script
 whole script i e = ap (λ (n : ℕ). take n script) e ∙ take-length script
 
-pub finished : (s : RunSetting) (script : List (List Line)) (i : ℕ) (r : RosterView) (sums : Sums) (marked lacking : Bool) (a b : SourceView) (t u : ClockView) (v w : CoreView) (x y : SinkView)
+pub finished : (e : Cached) (s : RunSetting) (script : List (List Line)) (i : ℕ) (r : RosterView) (sums : Sums) (marked lacking : Bool) (a b : SourceView) (t u : ClockView) (v w : CoreView) (x y : SinkView)
     → i ≡ length script → lacking ≡ false
-    → WrittenSoFar s (take i script) r sums marked lacking a b t.times u.times v w x y → IsRun s script (outside a x t) (outside b y u) (numbers_of w.policy) (Done marked)
-finished s script i r sums marked lacking a b t u v w x y e none h =
-    let P : List (List Line) → Type 0 = λ bs. WrittenSoFar s bs r sums marked lacking a b t.times u.times v w x y in
-    let k = subst P (whole script i e) h in
-    ended s script script [] k.replies r sums a b x y t u v w (Done marked) (sym (append-nil script)) k.ran (refl, k.written, k.marks, sym k.lacks ∙ none)
+    → WrittenSoFar e s (take i script) r sums marked lacking a b t.times u.times v w x y → IsRun e s script (outside a x t) (outside b y u) (core_seen v w) (Done marked)
+finished e s script i r sums marked lacking a b t u v w x y end none h =
+    let P : List (List Line) → Type 0 = λ bs. WrittenSoFar e s bs r sums marked lacking a b t.times u.times v w x y in
+    let k = subst P (whole script i end) h in
+    ended e s script script [] k.replies r sums a b x y t u v w (Done marked) (sym (append-nil script)) k.ran k.went (refl, k.written, k.marks, sym k.lacks ∙ none)

@@ -1,17 +1,20 @@
 -- What the lines of a block make of a run with one worker.
-use Rattle.std.specs.Prelude.{ℕ, ◌≡◌, ◌≤◌, ◌||◌, ◌⊎◌, List, [], ◌∷◌, ◌++◌, length, Bool, true, false, IsTrue, Option, Some, None, Ok, option_map, if◌then◌else◌}
+use Rattle.std.specs.Prelude.{ℕ, ◌≡◌, ◌≤◌, ◌<◌, ◌^◌, ◌||◌, ◌⊎◌, List, [], ◌∷◌, ◌++◌, length, Bool, true, false, IsTrue, IfSome, Option, Some, None, Ok, option_map, if◌then◌else◌}
 use Rattle.std.specs.Str.{bytes_eq}
 use Rattle.cache_outside.specs.Listing.{Listing}
 use Rattle.cache_outside.specs.Sources.{SourceView}
 use Rattle.cache_outside.specs.Sinks.{SinkView, behind}
-use Rattle.index_mounts.specs.Rosters.{MountView, RosterView, mounted}
+use Rattle.region_ranges.specs.declared.keys.Config.{Config}
+use Rattle.region_ranges.specs.Keys.{IsConfig}
+use Rattle.index_mounts.specs.Rosters.{MountView, RosterView, IsRoster, mounted, no_mounts}
 use Rattle.cache_policy.specs.Policy.{PolicyView, mapped_len}
-use Rattle.cache_door.specs.Machine.{is_gone}
+use Rattle.cache_door.specs.Machine.{State, is_gone, new_state}
 use Rattle.cache_door.specs.Doors.{nothing}
 use Rattle.cache_door.specs.Cores.{CoreView, state_of, door_of, held_by, Later}
+use Rattle.cache_reader.specs.declared.report.Report.{Report}
 use Rattle.cache_reader.specs.Going.{Moment, moment}
 use Rattle.mount_script.specs.declared.command.Command.{Command}
-use Rattle.mount_script.specs.declared.command.Command.TheVariants.{Unmount}
+use Rattle.mount_script.specs.declared.command.Command.TheVariants.{Mount, Unmount, Stats}
 use Rattle.mount_script.specs.declared.command.Line.{Line}
 use Rattle.mount_script.specs.declared.reply.Reply.{Reply}
 use Rattle.mount_script.specs.declared.reply.Reply.TheVariants as reply
@@ -20,9 +23,12 @@ use Rattle.shard_replies.specs.ExpectedReplies.{used_name}
 use Rattle.script_run.specs.Mounting.{mounts_of, after_block, after_blocks, nothing_mounted}
 use Rattle.script_run.specs.Allowed.{RunSetting, AllowedBlock, AllowedFrom, AllowedRun, faults_of, run_faults, Bears, unmounted_in, is_mark, is_memory, some_reply}
 use Rattle.script_run.specs.Texts.{run_text}
-use Rattle.script_run.specs.Clocks.{times_asked}
+use Rattle.script_run.specs.Clocks.{times_asked, first_times}
 use Rattle.script_run.specs.Counters.{Counters, no_counts, numbers_of, StatsRise, StatsBelow, LastStats, all_replies}
-use Rattle.script_run.specs.Lines.{HasKind, is_shared, is_mount}
+use Rattle.script_run.specs.Lines.{HasKind, is_shared, is_mount, Cached, LineDoes, Summed, no_sums}
+use Rattle.script_run.specs.MountLines.{MountKind, RosterGoes, MountDoes}
+use Rattle.script_run.specs.Bytes.{ManifestTook}
+use Rattle.script_run.specs.Room.{OnceLaws}
 use Rattle.script_run.specs.declared.sums.Sums.{Sums}
 
 -- a script that was read from some text: its `mount` and `stats` lines stand alone in their blocks
@@ -41,8 +47,13 @@ seen source core = moment source (door_of core 0)
 abbrev pub IsIdle : CoreView → Type 0
 IsIdle core = held_by core 0 ≡ nothing
 
--- A new core with one actor: nothing is held, no mount is unmounted, and nothing is counted.
+-- the first state of a cache with these settings and one actor, over some frames
+abbrev pub IsFirst : Config → State → Type 0
+IsFirst config s = (told : Bool) × (frames : List (List ℕ)) × (s ≡ new_state config told frames 1)
+
+-- A new core with one actor: its state is the first one, nothing is held, no mount is unmounted, and nothing is counted.
 pub record IsNew (core : CoreView) : Type 0 where
+  pub first : IsFirst core.config (state_of core)
   pub idle : core.holds ≡ None ∷ []
   pub mounts : (m : ℕ) → is_gone (state_of core) m ≡ false
   pub evictions : core.policy.evictions ≡ 0
@@ -141,6 +152,89 @@ pub record BlockRan (s : RunSetting) (r q : RosterView) (block : List Line) (rep
   pub idle : IsIdle w
   pub unmounted : UnmountedIn q [] w
 
+-- ---- what a run did, line after line
+
+-- what is seen of a run at one moment: its source, its core, and the sums of its lines
+pub record Point : Type 0 where
+  pub source : SourceView
+  pub core : CoreView
+  pub sums : Sums
+
+abbrev pub point : SourceView → CoreView → Sums → Point
+point source core sums = record { source = source; core = core; sums = sums }
+
+-- a line that is neither `mount` nor `stats` went from x to y, and its reads were added to the sums
+pub record LineWent (e : Cached) (now : ℕ) (r : RosterView) (c : Command) (given : Reply) (x y : Point) : Type 0 where
+  pub report : Report
+  pub does : LineDoes e now c (mounted (used_name c) r) given report (seen x.source x.core) (seen y.source y.core)
+  pub faults : x.source.faults ≤ y.source.faults
+  pub core : Later x.core y.core
+  pub sums : Summed x.sums y.sums report
+  pub below : (y.sums.fetched < 2 ^ 64) × (y.sums.direct < 2 ^ 64)
+
+-- such lines, one after another, at one time and with one roster
+abbrev pub LinesWent : Cached → ℕ → RosterView → List Line → List Reply → Point → Point → Type 0
+LinesWent e now r [] [] x y = y ≡ x
+LinesWent e now r (l ∷ ls) (g ∷ gs) x y = (z : Point) × LineWent e now r l.command g x z × LinesWent e now r ls gs z y
+LinesWent e now r ls gs x y = ⊥
+
+-- a block of such lines: what they unmounted is taken out of the roster behind them
+pub record SharedWent (e : Cached) (now : ℕ) (r q : RosterView) (block : List Line) (replies : List Reply) (x y : Point) : Type 0 where
+  pub shared : AllShared block
+  pub kept : IsRoster e.tells e.blobs r
+  pub lines : LinesWent e now r block replies x y
+  pub forgotten : Forgotten block replies r q
+  pub stats : NoStats replies
+
+-- the block of a `mount` line
+pub record MountWent (e : Cached) (r q : RosterView) (block : List Line) (replies : List Reply) (x y : Point) : Type 0 where
+  pub number : ℕ
+  pub name : List ℕ
+  pub manifest : List ℕ
+  pub given : Reply
+  pub line : block ≡ record { number = number; command = Mount name manifest } ∷ []
+  pub reply_is : replies ≡ given ∷ []
+  pub kind : MountKind given
+  pub roster : RosterGoes e.tells e.blobs name manifest r q given
+  pub door : MountDoes (door_of x.core 0) (door_of y.core 0) given
+  pub took : IsTrue e.tells → ManifestTook e.blobs manifest x.source y.source
+  pub faults : x.source.faults ≤ y.source.faults
+  pub core : Later x.core y.core
+  pub sums : y.sums ≡ x.sums
+
+-- the block of a `stats` line: it changes nothing
+pub record StatsWent (r q : RosterView) (block : List Line) (replies : List Reply) (x y : Point) : Type 0 where
+  pub number : ℕ
+  pub line : block ≡ record { number = number; command = Stats } ∷ []
+  pub reply_is : replies ≡ stats_of x.core.policy x.sums ∷ []
+  pub roster : q ≡ r
+  pub rests : y ≡ x
+
+-- a block went from x to y at this time, and a roster from r to q
+abbrev pub BlockWent : Cached → ℕ → RosterView → RosterView → List Line → List Reply → Point → Point → Type 0
+BlockWent e now r q block replies x y = SharedWent e now r q block replies x y ⊎ (MountWent e r q block replies x y ⊎ StatsWent r q block replies x y)
+
+-- blocks, one after another, each at its time
+abbrev pub BlocksWent : Cached → List ℕ → RosterView → RosterView → List (List Line) → List (List Reply) → Point → Point → Type 0
+BlocksWent e [] r q [] [] x y = (q ≡ r) × (y ≡ x)
+BlocksWent e (n ∷ ns) r q (b ∷ bs) (gs ∷ gss) x y = (t : RosterView) × (z : Point) × BlockWent e n r t b gs x z × BlocksWent e ns t q bs gss z y
+BlocksWent e ns r q bs gss x y = ⊥
+
+-- the times of so many blocks are the clock's first answers, where it tells
+abbrev pub TimesTold : ℕ → Option (List ℕ) → List ℕ → Type 0
+TimesTold n coming times = IfSome coming (λ ts. times ≡ first_times n ts)
+
+-- the first blocks of a run, from its beginning on
+pub record RunWent (e : Cached) (done : List (List Line)) (replies : List (List Reply)) (r : RosterView) (t : Option (List ℕ)) (x y : Point) : Type 0 where
+  pub times : List ℕ
+  pub told : TimesTold (length done) t times
+  pub first : IsFirst e.config (state_of x.core)
+  pub limits : IsConfig e.config
+  pub few : e.config.max_freq < 4294967296
+  pub count : length first.1 ≡ e.config.regions
+  pub laws : OnceLaws e.blobs
+  pub went : BlocksWent e times no_mounts r done replies x y
+
 -- ---- a run so far
 
 -- The `stats` replies so far rise up to what is counted now, are not above it, and the last reply, if it is one, says just this.
@@ -165,9 +259,10 @@ pub record RunSoFar (s : RunSetting) (done : List (List Line)) (replies : List (
   pub stats : StatsFit w.policy sums (all_replies replies)
 
 -- and their replies are written
-pub record WrittenSoFar (s : RunSetting) (done : List (List Line)) (r : RosterView) (sums : Sums) (marked lacking : Bool) (a b : SourceView) (t u : Option (List ℕ)) (v w : CoreView) (x y : SinkView) : Type 0 where
+pub record WrittenSoFar (e : Cached) (s : RunSetting) (done : List (List Line)) (r : RosterView) (sums : Sums) (marked lacking : Bool) (a b : SourceView) (t u : Option (List ℕ)) (v w : CoreView) (x y : SinkView) : Type 0 where
   pub replies : List (List Reply)
   pub ran : RunSoFar s done replies r sums a b t u v w
+  pub went : RunWent e done replies r t (point a v no_sums) (point b w sums)
   pub written : y.written ≡ behind x.written (run_text done replies)
   pub faults : x.faults ≤ y.faults
   pub marks : marked ≡ some_reply is_mark replies

@@ -6,5 +6,8 @@ pub mod Counters
 pub mod Shelves
 pub mod Lines
 pub mod MountLines
+pub mod Bytes
+pub mod Room
 pub mod Blocks
+pub mod RunTakes
 pub mod Runs

@@ -16,12 +16,14 @@ use Rattle.cache_reader.specs.Reports.{no_bytes, Grew}
 use Rattle.cache_reader.specs.Parts.{ReadSetting}
 use Rattle.cache_reader.specs.Going.{Moment}
 use Rattle.cache_reader.specs.Reader.{ReadsThrough, files_seen}
+use Rattle.mount_manifest.specs.Manifest.{Facts}
+use Rattle.blob_parts.specs.Tables.{file_length}
 use Rattle.mount_script.specs.declared.command.Command.{Command}
 use Rattle.mount_script.specs.declared.command.Command.TheVariants.{Mount, Unmount, Clear, Decay, Stats, Search, Fetch, Read}
 use Rattle.mount_script.specs.declared.reply.Reply.{Reply}
 use Rattle.mount_script.specs.declared.reply.Reply.TheVariants as reply
-use Rattle.shard_replies.specs.ExpectedReplies.{refused}
-use Rattle.shard_replies.specs.Answers.{HasHits, HasFields, HasBytes}
+use Rattle.shard_replies.specs.ExpectedReplies.{refused, read_steps}
+use Rattle.shard_replies.specs.Answers.{HasHits, HasFields, HasBytes, AreAsked}
 use Rattle.script_run.specs.Allowed.{reads_files, is_memory}
 use Rattle.script_run.specs.declared.sums.Sums.{Sums}
 
@@ -124,16 +126,29 @@ pub record DoorDoes (work : Work) (unmounted : ℕ → Bool) (step : ℕ → Sta
   pub mounts : (m : ℕ) → y.door.unmounted m ≡ unmounted m
   pub state : Becomes x.door y.door step
 
--- Reads of a mount's files: some list of reads, and no want of memory among them but where the line says so.
-pub record FilesRead (c : ReadSetting) (given : Reply) (report : Report) (x y : Moment) : Type 0 where
+-- the reads that a line asks for, where the line says which: those of a `read` line
+abbrev pub asked_reads : (ℕ → ℕ) → Facts → Command → Option (List directory.Read)
+asked_reads lengths f (Read name file at len) = Some (read_steps lengths f file at len)
+asked_reads lengths f _ = None
+
+-- the reads are those that a line asks for, where it says which; or none, where there was no memory for the reply
+abbrev pub AreAskedBy : Option (List directory.Read) → Type 0 → List directory.Read → Type 0
+AreAskedBy None no_memory reads = Unit {0}
+AreAskedBy (Some asked) no_memory reads = AreAsked asked no_memory reads
+
+-- Reads of a mount's files: some list of reads, those that were asked for where that is said, and no want of memory among them but where
+-- the line says so.
+pub record FilesRead (c : ReadSetting) (asked_for : Option (List directory.Read)) (given : Reply) (report : Report) (x y : Moment) : Type 0 where
   pub reads : List directory.Read
+  pub asked : AreAskedBy asked_for (given ≡ reply.NoMemory) reads
   pub out_of_memory : Bool
   pub enough : is_memory given ≡ false → out_of_memory ≡ false
   pub through : ReadsThrough c x.door.actor reads no_bytes report false out_of_memory x y
 
 -- the same, with what the refusal of the reads (or none) says of the door and the source
-pub record LineReads (c : ReadSetting) (refusal : Option BytesError) (report : Report) (x y : Moment) : Type 0 where
+pub record LineReads (c : ReadSetting) (asked_for : Option (List directory.Read)) (refusal : Option BytesError) (report : Report) (x y : Moment) : Type 0 where
   pub reads : List directory.Read
+  pub asked : AreAskedBy asked_for (refusal ≡ Some bytes.NoMemory) reads
   pub out_of_memory : Bool
   pub cause : HasBytesCause (files_seen c x false) (files_seen c y out_of_memory) refusal
   pub through : ReadsThrough c x.door.actor reads no_bytes report false out_of_memory x y
@@ -144,7 +159,7 @@ LineDoes e now Decay m given report x y = DoorDoes (record no_work { decays = 1 
 LineDoes e now c None given report x y = Rests report x y
 LineDoes e now (Clear name) (Some m) given report x y = DoorDoes (record no_work { clears = 1 }) x.door.unmounted (λ a. clear m.number) report x y
 LineDoes e now (Unmount name) (Some m) given report x y = DoorDoes no_work (with_mount m.mount x.door.unmounted) (λ a. unmount m.mount m.number) report x y
-LineDoes e now c (Some m) given report x y = FilesRead (reading e m now) given report x y
+LineDoes e now c (Some m) given report x y = FilesRead (reading e m now) (asked_reads (file_length m.parts) m.facts c) given report x y
 
 -- ---- the sums of a run
 

@@ -3,7 +3,7 @@ use Rattle.std.specs.Prelude.{ℕ, ◌≡◌, List, Bool, IsTrue, Option, Some, 
 use Rattle.cache_outside.specs.Listing.{Listing, manifest_number}
 use Rattle.mount_manifest.specs.Manifest.{Facts}
 use Rattle.blob_parts.specs.Tables.{TableParts}
-use Rattle.index_mounts.specs.Rosters.{RosterView, with_mount}
+use Rattle.index_mounts.specs.Rosters.{RosterView, IsResolved, with_mount}
 use Rattle.index_mounts.specs.Calls.{check_of}
 use Rattle.cache_door.specs.Doors.{DoorView, Works, no_work}
 use Rattle.mount_script.specs.declared.reply.Reply.{Reply}
@@ -38,6 +38,7 @@ pub record MountsOne (tells : Bool) (blobs : Listing) (name manifest : List ℕ)
   pub parts : TableParts
   pub made : now ≡ with_mount name number facts parts before
   pub found : IsTrue tells → manifest_number manifest blobs ≡ Some number
+  pub resolved : IsResolved tells blobs number facts parts
 
 -- the roster gets a mount exactly where the line says so
 abbrev pub RosterGoes : Bool → Listing → List ℕ → List ℕ → RosterView → RosterView → Reply → Type 0
@@ -57,10 +58,11 @@ MountDoes before now (reply.Mounted files docs) = IsLive before now
 MountDoes before now given = now ≡ before
 
 -- a mount was made, or memory wanted
-pub record AddsMount (name : List ℕ) (number : ℕ) (facts : Facts) (parts : TableParts) (before now : RosterView) (x y : DoorView) : Type 0 where
+pub record AddsMount (tells : Bool) (blobs : Listing) (name : List ℕ) (number : ℕ) (facts : Facts) (parts : TableParts) (before now : RosterView) (x y : DoorView) : Type 0 where
   pub roster : now ≡ with_mount name number facts parts before
+  pub resolved : IsResolved tells blobs number facts parts
   pub door : IsLive x y
 
-abbrev pub MayAdd : List ℕ → ℕ → Facts → TableParts → RosterView → RosterView → DoorView → DoorView → Reply → Type 0
-MayAdd name number facts parts before now x y (reply.Mounted files docs) = AddsMount name number facts parts before now x y
-MayAdd name number facts parts before now x y given = (now ≡ before) × (y ≡ x)
+abbrev pub MayAdd : Bool → Listing → List ℕ → ℕ → Facts → TableParts → RosterView → RosterView → DoorView → DoorView → Reply → Type 0
+MayAdd tells blobs name number facts parts before now x y (reply.Mounted files docs) = AddsMount tells blobs name number facts parts before now x y
+MayAdd tells blobs name number facts parts before now x y given = (now ≡ before) × (y ≡ x)

@@ -4,9 +4,9 @@ ghost use Rattle.std.specs.List.{list_any};
 ghost use Rattle.region_ranges.specs.Keys.{IsConfig};
 ghost use Rattle.cache_door.specs.Cores.{all_tell, Later};
 ghost use Rattle.script_run.specs.Allowed.{is_mark, is_memory};
-ghost use Rattle.script_run.specs.Counters.{numbers_of};
+ghost use Rattle.script_run.specs.Lines.{cached};
 ghost use Rattle.script_run.specs.Blocks.{alone, IsIdle, IsNew, WasRead};
-ghost use Rattle.script_run.specs.Runs.{IsRun, outside};
+ghost use Rattle.script_run.specs.Runs.{IsRun, outside, core_seen};
 
 use crate::block::run_block;
 use crate::ended::Ended;
@@ -15,7 +15,9 @@ use crate::sums::Sums;
 use crate::written::write_block;
 use cache_door::Core;
 use cache_outside::{Archive, BlobSource, Clock, Frame, OutError, Sink};
+use cache_reader::{acts_go_on, mounts_fit, mounts_once};
 use index_mounts::Roster;
+use mount_manifest::sound_manifests;
 use mount_script::{Reply, Script};
 use region_ranges::Config;
 use std::alloc::Global;
@@ -77,12 +79,18 @@ pub fn run_alone<A: Archive + Drop, F: Frame + Drop, S: BlobSource<A>, K: Sink, 
     requires fresh { IsNew core.old }
     requires setting { core.old.config ≡ config.now }
     requires limits { IsConfig config.now }
-    ensures run { IsRun (alone (A.tells && all_tell core.old.cells) A.blobs config.now.regions) script.now
+    ensures run { IsRun (cached A.tells A.blobs config.now)
+        (alone (A.tells && all_tell core.old.cells) A.blobs config.now.regions) script.now
         (outside (S.view source.old) (K.view sink.old) (C.view clock.old))
-        (outside (S.view source.new) (K.view sink.new) (C.view clock.new)) (numbers_of core.new.policy) result }
+        (outside (S.view source.new) (K.view sink.new) (C.view clock.new)) (core_seen core.old core.new) result }
     ensures core { Later core.old core.new }
     ensures idle { IsIdle core.new }
 {
+    core.lesson();
+    sound_manifests();
+    acts_go_on();
+    mounts_fit();
+    mounts_once();
     let mut roster = Roster::new(alloc);
     let mut shelves = Shelves::new(alloc);
     let mut sums = Sums::new();

@@ -4,9 +4,9 @@ ghost use Rattle.std.specs.Prelude.{vec_capacity, if◌then◌else◌};
 ghost use Rattle.index_mounts.specs.Rosters.{mounted};
 ghost use Rattle.region_ranges.specs.Keys.{IsConfig};
 ghost use Rattle.cache_door.specs.Cores.{all_tell};
-ghost use Rattle.script_run.specs.Lines.{is_shared};
+ghost use Rattle.script_run.specs.Lines.{is_shared, cached};
 ghost use Rattle.script_run.specs.Blocks.{alone, IsIdle, IsBlock, AllShared, UnmountedIn, LinesRan, BlockRan};
-ghost use Rattle.script_run.specs.Blocks.{BlockStats, NoStats, Forgotten, forgets, SumsLater};
+ghost use Rattle.script_run.specs.Blocks.{BlockStats, NoStats, Forgotten, forgets, SumsLater, point, LinesWent, BlockWent};
 ghost use Rattle.script_run.specs.Shelves.{ShelvesFit};
 
 use crate::core_lines::{core_line, core_mount};
@@ -64,6 +64,8 @@ fn run_lines<A: Archive + Drop, F: Frame + Drop, S: BlobSource<A>>(
     requires room { length block.now ≤ vec_capacity replies.old }
     ensures ran { LinesRan (alone (A.tells && all_tell core.old.cells) A.blobs config.now.regions) roster.now block.now
         block.now replies.new.items (S.view source.old) (S.view source.new) core.old core.new }
+    ensures went { LinesWent (cached A.tells A.blobs config.now) now roster.now block.now replies.new.items
+        (point (S.view source.old) core.old sums.old) (point (S.view source.new) core.new sums.new) }
     ensures shelves { ShelvesFit (A.tells && all_tell core.old.cells) A.blobs roster.now shelves.new }
     ensures sums { SumsLater sums.old sums.new }
 {
@@ -131,9 +133,12 @@ fn shared_block<A: Archive + Drop, F: Frame + Drop, S: BlobSource<A>>(
     ensures ran { BlockRan (alone (A.tells && all_tell core.old.cells) A.blobs config.now.regions) roster.old roster.new
         block.now replies.new.items (S.view source.old) (S.view source.new) core.old core.new }
     ensures stats { NoStats replies.new.items }
+    ensures went { BlockWent (cached A.tells A.blobs config.now) now roster.old roster.new block.now replies.new.items
+        (point (S.view source.old) core.old sums.old) (point (S.view source.new) core.new sums.new) }
     ensures shelves { ShelvesFit (A.tells && all_tell core.old.cells) A.blobs roster.new shelves.new }
     ensures sums { SumsLater sums.old sums.new }
 {
+    roster.lesson();
     run_lines(
         alloc, core, source, roster, shelves, config, block, now, sums, replies,
     );
@@ -166,6 +171,8 @@ pub(crate) fn run_block<A: Archive + Drop, F: Frame + Drop, S: BlobSource<A>>(
     ensures ran { BlockRan (alone (A.tells && all_tell core.old.cells) A.blobs config.now.regions) roster.old roster.new
         block.now replies.new.items (S.view source.old) (S.view source.new) core.old core.new }
     ensures stats { BlockStats core.old core.new sums.old sums.new replies.new.items }
+    ensures went { BlockWent (cached A.tells A.blobs config.now) now roster.old roster.new block.now replies.new.items
+        (point (S.view source.old) core.old sums.old) (point (S.view source.new) core.new sums.new) }
     ensures shelves { ShelvesFit (A.tells && all_tell core.old.cells) A.blobs roster.new shelves.new }
     ensures sums { SumsLater sums.old sums.new }
 {

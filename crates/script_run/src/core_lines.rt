@@ -1,5 +1,5 @@
 // Lines by the one actor of a core.
-ghost use Rattle.std.specs.Prelude.{◌≡◌, ◌&&◌, true, length};
+ghost use Rattle.std.specs.Prelude.{◌≡◌, ◌&&◌, true, IsTrue, length};
 ghost use Rattle.region_ranges.specs.Keys.{IsConfig};
 ghost use Rattle.blob_parts.specs.Takes.{SourceLater};
 ghost use Rattle.cache_door.specs.Cores.{all_tell, door_of, Later};
@@ -8,6 +8,7 @@ ghost use Rattle.mount_script.specs.declared.reply.Reply.TheVariants as reply;
 ghost use Rattle.shard_replies.specs.ExpectedReplies.{expected_reply, mount_reply, used_name};
 ghost use Rattle.script_run.specs.Mounting.{mounts_of};
 ghost use Rattle.script_run.specs.Lines.{is_shared, cached, IsAnswer, IsMarked, HasKind, LineDoes};
+ghost use Rattle.script_run.specs.Bytes.{ManifestTook};
 ghost use Rattle.script_run.specs.MountLines.{MountKind, RosterGoes, MountDoes};
 ghost use Rattle.script_run.specs.Blocks.{seen, IsIdle};
 ghost use Rattle.script_run.specs.Shelves.{ShelvesFit};
@@ -75,6 +76,7 @@ pub(crate) fn core_mount<A: Archive + Drop, F: Frame + Drop, S: BlobSource<A>>(
     ensures roster { RosterGoes A.tells A.blobs name.now manifest.now roster.old roster.new result }
     ensures later { Later core.old core.new }
     ensures source { SourceLater (S.view source.old) (S.view source.new) (result ≡ reply.Fault) }
+    ensures took { IsTrue A.tells → ManifestTook A.blobs manifest.now (S.view source.old) (S.view source.new) }
     ensures does { MountDoes (door_of core.old 0) (door_of core.new 0) result }
 {
     let mut door = core.door(0);

@@ -1,13 +1,14 @@
 // Lines that read a mount's files through a door. Each lends the door and the source to one reader.
-ghost use Rattle.std.specs.Prelude.{◌≡◌, ◌<◌, ◌≤◌, ◌&&◌, IsTrue, IfOk, length};
+ghost use Rattle.std.specs.Prelude.{◌≡◌, ◌<◌, ◌≤◌, ◌&&◌, Some, None, IsTrue, IfOk, length};
 ghost use Rattle.region_ranges.specs.Keys.{IsConfig};
 ghost use Rattle.directory_input.specs.Causes.{refusal};
 ghost use Rattle.blob_parts.specs.Content.{content};
+ghost use Rattle.blob_parts.specs.Tables.{file_length};
 ghost use Rattle.cache_door.specs.Doors.{nothing};
 ghost use Rattle.cache_reader.specs.Going.{moment};
 ghost use Rattle.index_mounts.specs.Calls.{mount_view};
 ghost use Rattle.shard_replies.specs.Answers.{HasHits, HasFields, HasBytes};
-ghost use Rattle.shard_replies.specs.ExpectedReplies.{search_reply, fetch_reply, read_reply};
+ghost use Rattle.shard_replies.specs.ExpectedReplies.{search_reply, fetch_reply, read_reply, read_steps};
 ghost use Rattle.script_run.specs.Lines.{cached, reading, LineReads};
 ghost use Rattle.script_run.specs.Shelves.{BelongsTo};
 
@@ -47,8 +48,9 @@ pub(crate) fn search_line<A: Archive, D: CacheDoor<A>, S: BlobSource<A>>(
     ensures shelf { BelongsTo (A.tells && (D.view door.old).frames_tell) A.blobs shelf.new (mount_view mount.now) }
     ensures stays { D.stays door.old door.new }
     ensures hold { (D.view door.new).hold ≡ nothing }
-    ensures goes { LineReads (reading (cached A.tells A.blobs config.now) (mount_view mount.now) now) (refusal result.0)
-        result.1 (moment (S.view source.old) (D.view door.old)) (moment (S.view source.new) (D.view door.new)) }
+    ensures goes { LineReads (reading (cached A.tells A.blobs config.now) (mount_view mount.now) now) None
+        (refusal result.0) result.1 (moment (S.view source.old) (D.view door.old))
+        (moment (S.view source.new) (D.view door.new)) }
 {
     let mut bytes = Reader::new(alloc, door, source, &mount.parts, mount.mount, config, now);
     let reply = search_reply(alloc, &mut bytes, shelf, &mount.manifest, size, query);
@@ -77,8 +79,9 @@ pub(crate) fn fetch_line<A: Archive, D: CacheDoor<A>, S: BlobSource<A>>(
     ensures form { IfOk result.0 HasFields }
     ensures stays { D.stays door.old door.new }
     ensures hold { (D.view door.new).hold ≡ nothing }
-    ensures goes { LineReads (reading (cached A.tells A.blobs config.now) (mount_view mount.now) now) (refusal result.0)
-        result.1 (moment (S.view source.old) (D.view door.old)) (moment (S.view source.new) (D.view door.new)) }
+    ensures goes { LineReads (reading (cached A.tells A.blobs config.now) (mount_view mount.now) now) None
+        (refusal result.0) result.1 (moment (S.view source.old) (D.view door.old))
+        (moment (S.view source.new) (D.view door.new)) }
 {
     let mut bytes = Reader::new(alloc, door, source, &mount.parts, mount.mount, config, now);
     let reply = fetch_reply(alloc, &mut bytes, &mount.manifest, segment, doc);
@@ -108,7 +111,8 @@ pub(crate) fn read_line<A: Archive, D: CacheDoor<A>, S: BlobSource<A>>(
     ensures form { IfOk result.0 HasBytes }
     ensures stays { D.stays door.old door.new }
     ensures hold { (D.view door.new).hold ≡ nothing }
-    ensures goes { LineReads (reading (cached A.tells A.blobs config.now) (mount_view mount.now) now) (refusal result.0)
+    ensures goes { LineReads (reading (cached A.tells A.blobs config.now) (mount_view mount.now) now)
+        (Some (read_steps (file_length mount.now.parts) mount.now.manifest file.now at len)) (refusal result.0)
         result.1 (moment (S.view source.old) (D.view door.old)) (moment (S.view source.new) (D.view door.new)) }
 {
     let mut bytes = Reader::new(alloc, door, source, &mount.parts, mount.mount, config, now);

@@ -3,6 +3,7 @@ ghost use Rattle.std.specs.Prelude.{◌≡◌, ◌<◌, ◌≤◌, ◌&&◌, Som
 ghost use Rattle.std.specs.Option.{ForSome};
 ghost use Rattle.region_ranges.specs.Keys.{IsConfig};
 ghost use Rattle.directory_input.specs.Causes.{refusal};
+ghost use Rattle.blob_parts.specs.Tables.{file_length};
 ghost use Rattle.blob_parts.specs.Takes.{SourceLater};
 ghost use Rattle.cache_door.specs.Doors.{nothing};
 ghost use Rattle.cache_reader.specs.Going.{moment};
@@ -12,7 +13,7 @@ ghost use Rattle.mount_script.specs.declared.reply.Reply.TheVariants as reply;
 ghost use Rattle.shard_replies.specs.ExpectedReplies.{expected_reply, named_reply, mount_command, used_name};
 ghost use Rattle.script_run.specs.Allowed.{reads_files};
 ghost use Rattle.script_run.specs.Mounting.{mounts_of};
-ghost use Rattle.script_run.specs.Lines.{is_shared, named, cached, reading, IsAnswer, IsMarked, HasForm, HasKind, LineReads, LineDoes};
+ghost use Rattle.script_run.specs.Lines.{is_shared, named, cached, reading, IsAnswer, IsMarked, HasForm, HasKind, LineReads, LineDoes, asked_reads};
 ghost use Rattle.script_run.specs.Shelves.{BelongsTo, IsNumber, ShelvesFit};
 
 use crate::answer::{Answer, refused};
@@ -67,7 +68,8 @@ fn files_line<A: Archive, D: CacheDoor<A>, S: BlobSource<A>>(
     ensures shelf { BelongsTo (A.tells && (D.view door.old).frames_tell) A.blobs shelf.new (mount_view mount.now) }
     ensures stays { D.stays door.old door.new }
     ensures hold { (D.view door.new).hold ≡ nothing }
-    ensures goes { LineReads (reading (cached A.tells A.blobs config.now) (mount_view mount.now) now) (refusal result.0)
+    ensures goes { LineReads (reading (cached A.tells A.blobs config.now) (mount_view mount.now) now)
+        (asked_reads (file_length mount.now.parts) mount.now.manifest command.now) (refusal result.0)
         result.1 (moment (S.view source.old) (D.view door.old)) (moment (S.view source.new) (D.view door.new)) }
 {
     match command {

@@ -7,6 +7,7 @@ ghost use Rattle.mount_script.specs.declared.reply.Reply.TheVariants as reply;
 ghost use Rattle.shard_replies.specs.ExpectedReplies.{mount_reply, mounted, refused};
 ghost use Rattle.script_run.specs.Mounting.{mounts_of};
 ghost use Rattle.script_run.specs.Lines.{IsAnswer, IsOrNoMemory};
+ghost use Rattle.script_run.specs.Bytes.{ManifestTook};
 ghost use Rattle.script_run.specs.MountLines.{Taken, MountKind, RosterGoes, MountDoes, MayAdd};
 
 use crate::answer::refused;
@@ -45,8 +46,8 @@ fn add_mount<A: Archive, D: CacheDoor<A>>(
     requires free { check_of name.now roster.old ≡ Ok tt }
     ensures reply { IsOrNoMemory (mounted manifest) result }
     ensures stays { D.stays door.old door.new }
-    ensures adds { MayAdd name.now number manifest parts roster.old roster.new (D.view door.old) (D.view door.new)
-        result }
+    ensures adds { MayAdd A.tells A.blobs name.now number manifest parts roster.old roster.new (D.view door.old)
+        (D.view door.new) result }
 {
     let reply = mounted_reply(&manifest);
     let Ok(name) = name.clone() else {
@@ -67,7 +68,7 @@ fn add_mount<A: Archive, D: CacheDoor<A>>(
 /// The reply is the one that whole files give, with its refusals in order: the name is mounted; 4,096 mounts were made;
 /// there is no such manifest; its text is refused; a part is missing, or has another size. `Fault` comes only where the
 /// source's count of failures rose in this call; `NoMemory` is free. The roster changes only where the reply is
-/// `Mounted`.
+/// `Mounted`. Nothing is taken from the source but bytes of the manifest, from its first on.
 pub fn mount_line<A: Archive, D: CacheDoor<A>, S: BlobSource<A>>(
     alloc: Global,
     door: &mut D,
@@ -80,6 +81,7 @@ pub fn mount_line<A: Archive, D: CacheDoor<A>, S: BlobSource<A>>(
     ensures kind { MountKind result }
     ensures roster { RosterGoes A.tells A.blobs name.now manifest.now roster.old roster.new result }
     ensures source { SourceLater (S.view source.old) (S.view source.new) (result ≡ reply.Fault) }
+    ensures took { IsTrue A.tells → ManifestTook A.blobs manifest.now (S.view source.old) (S.view source.new) }
     ensures stays { D.stays door.old door.new }
     ensures does { MountDoes (D.view door.old) (D.view door.new) result }
 {

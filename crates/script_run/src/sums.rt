@@ -1,5 +1,5 @@
 // Bytes of all lines of a run.
-ghost use Rattle.std.specs.Prelude.{◌≡◌};
+ghost use Rattle.std.specs.Prelude.{◌≡◌, ◌<◌, ◌^◌};
 ghost use Rattle.script_run.specs.Lines.{no_sums, Summed};
 
 use cache_reader::Report;
@@ -26,7 +26,8 @@ impl Sums {
 
     /// Adds what the reads of a line counted.
     pub fn add(&mut self, report: &Report)
-        ensures { Summed self.old self.new report.now }
+        ensures sums { Summed self.old self.new report.now }
+        ensures below { (self.new.fetched < 2 ^ 64) × (self.new.direct < 2 ^ 64) }
     {
         self.fetched = self.fetched.saturating_add(report.fetched);
         self.direct = self.direct.saturating_add(report.direct);

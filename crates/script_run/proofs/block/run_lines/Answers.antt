@@ -4,6 +4,7 @@ use Rattle.std.proofs.lemmas.List.{take_more}
 use Rattle.mount_script.specs.declared.command.Line.{Line}
 use Rattle.script_run.specs.Shelves.{ShelvesFit}
 use Rattle.script_run.proofs.Blocks.{shared_at, line_ran, ran_as}
+use Rattle.script_run.proofs.Steps.{lines_more, lines_as}
 use Rattle.script_run.proofs.block.run_lines.Goals as goal
 
 pub core_line-answer-requires-clause-shared : goal.core_line-answer-requires-clause-shared
@@ -27,6 +28,9 @@ loop-line-preserved g c =
     record {
       ran = ran_as _ _ ls (take i ls ++ l ∷ []) (take (i + 1) ls) _ _ _ _ _ _ next c.put.ensures.items ran;
       shelves = subst (λ (f : Bool). ShelvesFit (g.A.Archive.tells && f) g.A.Archive.blobs c.args.roster.now c.core_line-answer.new.shelves) c.loop-line.invariant.ran.core.tell told.shelves;
+      went = lines_as _ _ _ (take i ls ++ l ∷ []) (take (i + 1) ls) _ _ _ _ next c.put.ensures.items
+          (lines_more _ _ _ (take i ls) c.loop-line.replies.items l answer.reply _ _ _ c.loop-line.invariant.went
+          (record { report = answer.report; does = told.does; faults = told.source.later; core = told.later; sums = c.add.ensures.sums; below = c.add.ensures.below }));
       sums = search rules;
       len = search rules;
       room = search rules;

@@ -1,4 +1,4 @@
-use Rattle.std.proofs.Common.{◌∙◌, ap, length}
+use Rattle.std.proofs.Common.{◌∙◌, ap, inl, length}
 use Rattle.script_run.proofs.Blocks.{shared_ran, kinds_no_stats, kinds_length}
 use Rattle.script_run.proofs.KeptShelves.{fits_forgotten}
 use Rattle.script_run.proofs.block.shared_block.Goals as goal
@@ -16,3 +16,12 @@ returns-clause-stats g c = kinds_no_stats c.args.roster.now c.args.block.now c.r
 pub returns-clause-shelves : goal.returns-clause-shelves
 returns-clause-shelves g c =
     fits_forgotten _ _ c.args.block.now c.run_lines.new.replies.items c.args.roster.now c.forget.new.roster c.run_lines.new.shelves (rw c.deref.ensures.value at c.forget.ensures) c.run_lines.ensures.shelves
+
+pub returns-clause-went : goal.returns-clause-went
+returns-clause-went g c = inl (record {
+  shared = c.requires.shared;
+  kept = c.lesson.ensures;
+  lines = c.run_lines.ensures.went;
+  forgotten = rw c.deref.ensures.value at c.forget.ensures;
+  stats = kinds_no_stats c.args.roster.now c.args.block.now c.run_lines.new.replies.items c.requires.shared c.run_lines.ensures.ran.kinds;
+})
