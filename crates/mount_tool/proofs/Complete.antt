@@ -27,7 +27,7 @@ use Rattle.script_run.specs.Allowed.{RunSetting, IsPlain, Allowed, AllowedFrom, 
 use Rattle.script_run.specs.Blocks.{alone}
 use Rattle.script_run.specs.Counters.{CoreNumbers, all_replies}
 use Rattle.script_run.specs.Lines.{cached}
-use Rattle.script_run.specs.Runs.{IsRun, HasStats, EndsBy, outside}
+use Rattle.script_run.specs.Runs.{IsRun, CoreSeen, HasStats, EndsBy, outside}
 use Rattle.script_run.specs.Texts.{run_text}
 use Rattle.script_run.specs.declared.ended.Ended.{Ended}
 use Rattle.script_run.specs.declared.ended.Ended.TheVariants.{Done, SinkFault, NoMemory}
@@ -242,12 +242,12 @@ module _ (tells : Bool) (blobs : Listing) (s : RunSettings) (blocks : List (List
   status_zero : (marked : Bool) → status ≡ run_status (Done marked) → marked ≡ false → status ≡ 0
   status_zero marked is e = is ∙ ap (λ (m : Bool). run_status (Done m)) e
 
-  by_one : (told : Bool) (numbers : CoreNumbers) (ended : Ended) → status ≡ run_status ended → (IsTrue x.maker.tells → told ≡ true)
-      → IsRun (alone (tells && told) blobs s.regions) blocks (outside (first_source x.sources) x.sink x.clock) (outside (first_source y.sources) y.sink y.clock) numbers ended
+  by_one : (told : Bool) (core : CoreSeen) (ended : Ended) → status ≡ run_status ended → (IsTrue x.maker.tells → told ≡ true)
+      → IsRun (cached tells blobs (config_of s)) (alone (tells && told) blobs s.regions) blocks (outside (first_source x.sources) x.sink x.clock) (outside (first_source y.sources) y.sink y.clock) core ended
       → s.workers ≤ 1 → NoneFailed s.workers x y → list_any mixes blocks ≡ false → ((status ≡ 0) × WroteAll tells blobs s blocks x y) ⊎ (status ≡ 6)
-  by_one told numbers SinkFault is tell r one none apart = absurd (not_rose x.sink.faults y.sink.faults r.ends.1 none.sink)
-  by_one told numbers NoMemory is tell r one none apart = inr is
-  by_one told numbers (Done marked) is tell r one none apart =
+  by_one told core SinkFault is tell r one none apart = absurd (not_rose x.sink.faults y.sink.faults r.ends.1 none.sink)
+  by_one told core NoMemory is tell r one none apart = inr is
+  by_one told core (Done marked) is tell r one none apart =
       let own : max 1 s.workers ≡ 1 = omega (arith, one) in
       let within : 0 < max 1 s.workers = omega (arith, own) in
       let calm : Steady (first_source x.sources).faults (first_source y.sources).faults =
@@ -256,7 +256,7 @@ module _ (tells : Bool) (blobs : Listing) (s : RunSettings) (blocks : List (List
       let few : run_faults 1 0 r.replies ≡ 0 = no_faults (run_faults 1 0 r.replies) (first_source x.sources).faults (first_source y.sources).faults r.bears calm in
       done 1 own (omega arith) told tell status_zero marked r.blocks r.rest r.replies is r.all r.allowed
       (λ i h. (let zero : i ≡ 0 = omega (arith, h) in subst (λ (i : ℕ). run_faults 1 i r.replies ≡ 0) (sym zero) few)) r.ends
-      (λ unmarked one. (numbers, subst (λ (m : Bool). HasStats numbers (all_replies r.replies) (Done m)) unmarked r.stats)) apart
+      (λ unmarked one. (core.numbers, subst (λ (m : Bool). HasStats core.numbers (all_replies r.replies) (Done m)) unmarked r.stats)) apart
 
   by_several : (told : Bool) (first last : PassView) (ended : Ended) → status ≡ run_status ended → (IsTrue x.maker.tells → told ≡ true)
       → IsSharedRun (cached tells blobs (config_of s)) (several (tells && told) blobs s.workers s.regions) blocks (outsides x.sources x.sink x.clock) (outsides y.sources y.sink y.clock) first last ended
@@ -275,12 +275,12 @@ module _ (tells : Bool) (blobs : Listing) (s : RunSettings) (blocks : List (List
   by_ending (no_script t e) h says none apart = let k : script t ≡ Ok blocks = read_whole x.text.left says.bytes t blocks says.told says.script_of h.0 in let j : script t ≡ Err e = h.1 in absurd (cc)
   by_ending (no_frame t b) h says none apart = absurd (not_rose x.maker.faults y.maker.faults h.2 none.maker)
   by_ending no_room h says none apart = inr h.0
-  by_ending (ran t b told numbers ended) h says none apart =
+  by_ending (ran t b told core ended) h says none apart =
       let k : script t ≡ Ok blocks = read_whole x.text.left says.bytes t blocks says.told says.script_of h.0.0 in
       let j : script t ≡ Ok b = h.0.1 in
       let same : b ≡ blocks = cc in
-      by_one told numbers ended h.1 h.2
-      (subst (λ (c : List (List Line)). IsRun (alone (tells && told) blobs s.regions) c (outside (first_source x.sources) x.sink x.clock) (outside (first_source y.sources) y.sink y.clock) numbers ended) same h.3)
+      by_one told core ended h.1 h.2.tell
+      (subst (λ (c : List (List Line)). IsRun (cached tells blobs (config_of s)) (alone (tells && told) blobs s.regions) c (outside (first_source x.sources) x.sink x.clock) (outside (first_source y.sources) y.sink y.clock) core ended) same h.3)
       h.4 none apart
   by_ending (shared t b told first last ended) h says none apart =
       let k : script t ≡ Ok blocks = read_whole x.text.left says.bytes t blocks says.told says.script_of h.0.0 in

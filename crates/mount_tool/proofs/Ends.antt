@@ -16,11 +16,11 @@ use Rattle.run_setup.specs.declared.settings.RunSettings.{RunSettings}
 use Rattle.run_setup.specs.Texts.{IsRead}
 use Rattle.run_setup.specs.Settings.{config_of}
 use Rattle.script_run.specs.Blocks.{alone}
-use Rattle.script_run.specs.Counters.{CoreNumbers}
-use Rattle.script_run.specs.Runs.{Outside, outside, IsRun}
+use Rattle.script_run.specs.Runs.{Outside, CoreSeen, outside, IsRun}
 use Rattle.script_run.specs.declared.ended.Ended.{Ended}
 use Rattle.mount_tool.specs.Replies.{run_status}
 use Rattle.mount_tool.specs.Calls.{world, no_script, no_frame, no_room, ran, shared, IsUnrun, IsScriptText, IsScriptRun}
+use Rattle.mount_tool.specs.Runs.{IsOverFrames}
 use Rattle.mount_tool.specs.Steps.{IsRefusal, BlocksEnding, without_frames, without_room, over, BlocksEnd, BlocksEnded, SharedEnding, unframed, roomless, through, SharedEnd, SharedBlocksEnded}
 use Rattle.cache_table.specs.Views.{PassView}
 use Rattle.script_run.specs.Lines.{cached}
@@ -43,16 +43,16 @@ ends_by tells blobs s text now m n k l c d a b rest t blocks status one is witho
     record { ending = no_frame t blocks; ends = (is, h.0, h.1, unrun text now m n k l c d a b rest h.2) }
 ends_by tells blobs s text now m n k l c d a b rest t blocks status one is without_room h =
     record { ending = no_room; ends = (h.0, unrun text now m n k l c d a b rest h.1) }
-ends_by tells blobs s text now m n k l c d a b rest t blocks status one is (over told numbers ended) h =
-    record { ending = ran t blocks told numbers ended; ends = (is, h.0, h.1, h.2, one) }
+ends_by tells blobs s text now m n k l c d a b rest t blocks status one is (over told core ended) h =
+    record { ending = ran t blocks told core ended; ends = (is, h.0, h.1, h.2, one) }
 
 -- blocks that ran over frames of which it is known whether they tell
-pub over_frames : (tells : Bool) (blobs : Listing) (s : RunSettings) (blocks : List (List Line)) (m n : MakerView) (x y : Outside) (told : Bool) (numbers : CoreNumbers) (ended : Ended) (status : ℕ) (config : Config)
-    → config ≡ config_of s → status ≡ run_status ended → (IsTrue m.tells → told ≡ true)
-    → IsRun (alone (tells && told) blobs config.regions) blocks x y numbers ended → BlocksEnded tells blobs s blocks m n x y status
-over_frames tells blobs s blocks m n x y told numbers ended status config is own tell h = record {
-  ending = over told numbers ended;
-  ends = (own, tell, subst (λ (k : Config). IsRun (alone (tells && told) blobs k.regions) blocks x y numbers ended) is h);
+pub over_frames : (tells : Bool) (blobs : Listing) (s : RunSettings) (blocks : List (List Line)) (m n : MakerView) (x y : Outside) (told : Bool) (core : CoreSeen) (ended : Ended) (status : ℕ) (config : Config)
+    → config ≡ config_of s → status ≡ run_status ended → IsOverFrames m told core
+    → IsRun (cached tells blobs config) (alone (tells && told) blobs config.regions) blocks x y core ended → BlocksEnded tells blobs s blocks m n x y status
+over_frames tells blobs s blocks m n x y told core ended status config is own frames h = record {
+  ending = over told core ended;
+  ends = (own, frames, subst (λ (k : Config). IsRun (cached tells blobs k) (alone (tells && told) blobs k.regions) blocks x y core ended) is h);
 }
 
 -- a script that was read, and how its blocks ended

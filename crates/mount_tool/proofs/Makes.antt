@@ -114,12 +114,12 @@ cut_by m before now k c d a b blocks status is above one steps.without_frames h 
     record { ending = without_frames; ends = (h.0, h.1, refl, ap (λ (o : Outside). o.clock) h.2) }
 cut_by m before now k c d a b blocks status is above one steps.without_room h =
     record { ending = without_room; ends = (h.0, refl, ap (λ (o : Outside). o.clock) h.1) }
-cut_by m before now k c d a b blocks status is above one (steps.over told numbers (Done true)) h = let e = h.0 in absurd (omega (arith, e, above))
-cut_by m before now k c d a b blocks status is above one (steps.over told numbers (Done false)) h = let e = h.0 in absurd (omega (arith, e, above))
-cut_by m before now k c d a b blocks status is above one (steps.over told numbers SinkFault) h = absurd (never_rose h.2.ends.1)
-cut_by m before now k c d a b blocks status is above one (steps.over told numbers NoMemory) h = record {
-  ending = searched (outside a quiet c) (outside b quiet d) numbers NoMemory 0 0;
-  ends = (subst (λ s. IsRun (alone false [] m.run.regions) s (outside a quiet c) (outside b quiet d) numbers NoMemory) is h.2, refl, refl, (h.0, refl), one);
+cut_by m before now k c d a b blocks status is above one (steps.over told core (Done true)) h = let e = h.0 in absurd (omega (arith, e, above))
+cut_by m before now k c d a b blocks status is above one (steps.over told core (Done false)) h = let e = h.0 in absurd (omega (arith, e, above))
+cut_by m before now k c d a b blocks status is above one (steps.over told core SinkFault) h = absurd (never_rose h.2.ends.1)
+cut_by m before now k c d a b blocks status is above one (steps.over told core NoMemory) h = record {
+  ending = searched (outside a quiet c) (outside b quiet d) core NoMemory 0 0;
+  ends = (subst (λ s. IsRun (cached false [] (config_of m.run)) (alone false [] m.run.regions) s (outside a quiet c) (outside b quiet d) core NoMemory) is h.2, refl, refl, (h.0, refl), one);
 }
 
 -- the run was cut short, and nothing was written
@@ -135,11 +135,11 @@ done_by : (m : MakeSettings) (before now : MakerView) (k l : SinkView) (c d : Cl
     → IsMakeRun m before.faults now.faults k l c d last
 done_by m before now k l c d a b blocks status total sum last is small one written steps.without_frames h = let e = h.0 in absurd (omega (arith, e, small))
 done_by m before now k l c d a b blocks status total sum last is small one written steps.without_room h = let e = h.0 in absurd (omega (arith, e, small))
-done_by m before now k l c d a b blocks status total sum last is small one written (steps.over told numbers SinkFault) h = absurd (never_rose h.2.ends.1)
-done_by m before now k l c d a b blocks status total sum last is small one written (steps.over told numbers NoMemory) h = let e = h.0 in absurd (omega (arith, e, small))
-done_by m before now k l c d a b blocks status total sum last is small one written (steps.over told numbers (Done marked)) h = record {
-  ending = searched (outside a quiet c) (outside b quiet d) numbers (Done marked) total sum;
-  ends = (subst (λ s. IsRun (alone false [] m.run.regions) s (outside a quiet c) (outside b quiet d) numbers (Done marked)) is h.2, refl, refl, written, one);
+done_by m before now k l c d a b blocks status total sum last is small one written (steps.over told core SinkFault) h = absurd (never_rose h.2.ends.1)
+done_by m before now k l c d a b blocks status total sum last is small one written (steps.over told core NoMemory) h = let e = h.0 in absurd (omega (arith, e, small))
+done_by m before now k l c d a b blocks status total sum last is small one written (steps.over told core (Done marked)) h = record {
+  ending = searched (outside a quiet c) (outside b quiet d) core (Done marked) total sum;
+  ends = (subst (λ s. IsRun (cached false [] (config_of m.run)) (alone false [] m.run.regions) s (outside a quiet c) (outside b quiet d) core (Done marked)) is h.2, refl, refl, written, one);
 }
 
 -- the run came to its end, and the line was written or a front of it
@@ -211,7 +211,7 @@ ending_whole : (m : MakeSettings) (faults now : ℕ) (k l : SinkView) (c d : Clo
     → (Rose faults now → ⊥) → (Rose k.faults l.faults → ⊥) → IsMade m k l status
 ending_whole m faults now k l c d without_frames status h frames well = absurd (frames h.1)
 ending_whole m faults now k l c d without_room status h frames well = inr h.0
-ending_whole m faults now k l c d (searched a b numbers ended total sum) status h frames well = searches_whole m k l total sum ended status h.3 well
+ending_whole m faults now k l c d (searched a b core ended total sum) status h frames well = searches_whole m k l total sum ended status h.3 well
 ending_whole m faults now k l c d (searched_by_several a b first last ended total sum) status h frames well = searches_whole m k l total sum ended status h.3 well
 
 -- a run of `make` in which nothing failed

@@ -49,7 +49,7 @@ run_ends tells blobs s x y unread status h two = let f = h.0 in omega (arith, f,
 run_ends tells blobs s x y (no_script t e) status h two = noted_status _ _ status h.2 two
 run_ends tells blobs s x y (no_frame t blocks) status h two = let f = h.1 in omega (arith, f, two)
 run_ends tells blobs s x y no_room status h two = let f = h.0 in omega (arith, f, two)
-run_ends tells blobs s x y (ran t blocks told numbers ended) status h two = ended_status ended (sym h.1 ∙ two)
+run_ends tells blobs s x y (ran t blocks told core ended) status h two = ended_status ended (sym h.1 ∙ two)
 run_ends tells blobs s x y (shared t blocks told first last ended) status h two = ended_status ended (sym h.1 ∙ two)
 
 zero_status : (own : ℕ) → own ≡ 0 → own ≡ 2 → ⊥
@@ -63,7 +63,7 @@ searches_end m k l total sum ended.NoMemory status h two = let f = h.0 in omega 
 make_ends : (m : MakeSettings) (faults now : ℕ) (k l : SinkView) (c d : ClockView) (ending : MakeEnding) (status : ℕ) → MakeEnds m faults now k l c d ending status → status ≡ 2 → ⊥
 make_ends m faults now k l c d without_frames status h two = let f = h.0 in omega (arith, f, two)
 make_ends m faults now k l c d without_room status h two = let f = h.0 in omega (arith, f, two)
-make_ends m faults now k l c d (searched a b numbers ended total sum) status h two = searches_end m k l total sum ended status h.3 two
+make_ends m faults now k l c d (searched a b core ended total sum) status h two = searches_end m k l total sum ended status h.3 two
 make_ends m faults now k l c d (searched_by_several a b first last ended total sum) status h two = searches_end m k l total sum ended status h.3 two
 
 chosen : (b : Bool) (c : Command) → (if b then None else Some c) ≡ None → b ≡ true

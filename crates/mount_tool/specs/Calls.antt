@@ -16,15 +16,14 @@ use Rattle.run_setup.specs.Texts.{IsRead}
 use Rattle.run_setup.specs.Words.{Command, term, run, make, command, has_sources}
 use Rattle.run_setup.specs.Settings.{config_of}
 use Rattle.script_run.specs.Blocks.{alone}
-use Rattle.script_run.specs.Counters.{CoreNumbers}
-use Rattle.script_run.specs.Runs.{IsRun, outside}
+use Rattle.script_run.specs.Runs.{IsRun, CoreSeen, outside}
 use Rattle.script_run.specs.declared.ended.Ended.{Ended}
 use Rattle.cache_table.specs.Views.{PassView}
 use Rattle.script_run.specs.Lines.{cached}
 use Rattle.shared_run.specs.Blocks.{several}
 use Rattle.shared_run.specs.Runs.{IsSharedRun, outsides}
 use Rattle.mount_tool.specs.Replies.{usage_text, error_text, run_status}
-use Rattle.mount_tool.specs.Runs.{IsNoted, IsTermRun}
+use Rattle.mount_tool.specs.Runs.{IsNoted, IsTermRun, IsOverFrames}
 use Rattle.mount_tool.specs.Makes.{IsMakeRun, IsMade}
 
 -- ---- what a call is handed
@@ -66,7 +65,7 @@ pub data RunEnding : Type 0 where
   no_script : List ℕ → ScriptError → RunEnding  -- this text is no script
   no_frame : List ℕ → List (List Line) → RunEnding  -- the maker of frames failed
   no_room : RunEnding  -- memory was wanted before the first block
-  ran : List ℕ → List (List Line) → Bool → CoreNumbers → Ended → RunEnding  -- one worker ran the script, over frames of which it is known whether they tell
+  ran : List ℕ → List (List Line) → Bool → CoreSeen → Ended → RunEnding  -- one worker ran the script, over frames of which it is known whether they tell
   shared : List ℕ → List (List Line) → Bool → PassView → PassView → Ended → RunEnding  -- several workers did, through a cache that they share
 
 -- the text was read to its end, or to the first byte that a script may not have, and is the script of these blocks
@@ -80,10 +79,10 @@ RunEnds tells blobs s x y (no_script t e) status =
 RunEnds tells blobs s x y (no_frame t blocks) status =
     IsScriptText x t blocks × (status ≡ 7) × Rose x.maker.faults y.maker.faults × IsUnrun x y
 RunEnds tells blobs s x y no_room status = (status ≡ 6) × IsUnrun x y
-RunEnds tells blobs s x y (ran t blocks told numbers ended) status =
-    IsScriptText x t blocks × (status ≡ run_status ended) × (IsTrue x.maker.tells → told ≡ true)
-    × IsRun (alone (tells && told) blobs s.regions) blocks
-    (outside (first_source x.sources) x.sink x.clock) (outside (first_source y.sources) y.sink y.clock) numbers ended
+RunEnds tells blobs s x y (ran t blocks told core ended) status =
+    IsScriptText x t blocks × (status ≡ run_status ended) × IsOverFrames x.maker told core
+    × IsRun (cached tells blobs (config_of s)) (alone (tells && told) blobs s.regions) blocks
+    (outside (first_source x.sources) x.sink x.clock) (outside (first_source y.sources) y.sink y.clock) core ended
     × (s.workers ≤ 1)
 RunEnds tells blobs s x y (shared t blocks told first last ended) status =
     IsScriptText x t blocks × (status ≡ run_status ended) × (IsTrue x.maker.tells → told ≡ true)

@@ -9,8 +9,7 @@ use Rattle.shard_maker.specs.MadeRows.{made_rows}
 use Rattle.shard_maker.specs.Searches.{made_script}
 use Rattle.run_setup.specs.Settings.{config_of}
 use Rattle.script_run.specs.Blocks.{alone}
-use Rattle.script_run.specs.Counters.{CoreNumbers}
-use Rattle.script_run.specs.Runs.{IsRun, Outside}
+use Rattle.script_run.specs.Runs.{IsRun, CoreSeen, Outside}
 use Rattle.script_run.specs.declared.ended.Ended.{Ended}
 use Rattle.script_run.specs.declared.ended.Ended.TheVariants.{Done, SinkFault, NoMemory}
 use Rattle.cache_table.specs.Views.{PassView}
@@ -40,7 +39,7 @@ made_line m total sum = summary_text m.docs m.terms (postings_of m) total sum
 pub data MakeEnding : Type 0 where
   without_frames : MakeEnding  -- the maker of frames failed
   without_room : MakeEnding  -- memory was wanted before the first line
-  searched : Outside → Outside → CoreNumbers → Ended → ℕ → ℕ → MakeEnding  -- one worker ran the script over a source and a sink of its own; and two sums
+  searched : Outside → Outside → CoreSeen → Ended → ℕ → ℕ → MakeEnding  -- one worker ran the script over a source and a sink of its own; and two sums
   searched_by_several : Outsides → Outsides → PassView → PassView → Ended → ℕ → ℕ → MakeEnding  -- several workers did, over sources of their own; and two sums
 
 -- the line was written where the script ran to its end and no reply was `no memory`; nothing was where memory was wanted
@@ -53,8 +52,8 @@ SearchesEnd m k l total sum NoMemory status = (status ≡ 6) × (l ≡ k)
 abbrev pub MakeEnds : MakeSettings → ℕ → ℕ → SinkView → SinkView → ClockView → ClockView → MakeEnding → ℕ → Type 0
 MakeEnds m faults now k l c d without_frames status = (status ≡ 7) × Rose faults now × (l ≡ k) × (d ≡ c)
 MakeEnds m faults now k l c d without_room status = (status ≡ 6) × (l ≡ k) × (d ≡ c)
-MakeEnds m faults now k l c d (searched a b numbers ended total sum) status =
-    IsRun (alone false [] m.run.regions) (made_script m.seed m.docs m.terms) a b numbers ended
+MakeEnds m faults now k l c d (searched a b core ended total sum) status =
+    IsRun (cached false [] (config_of m.run)) (alone false [] m.run.regions) (made_script m.seed m.docs m.terms) a b core ended
     × (a.clock ≡ c) × (b.clock ≡ d) × SearchesEnd m k l total sum ended status × (m.run.workers ≤ 1)
 MakeEnds m faults now k l c d (searched_by_several a b first last ended total sum) status =
     IsSharedRun (cached false [] (config_of m.run)) (several false [] m.run.workers m.run.regions) (made_script m.seed m.docs m.terms) a b first last ended

@@ -1,10 +1,11 @@
 -- What the program may write, and its statuses.
-use Rattle.std.specs.Prelude.{ℕ, ◌≡◌, ◌⊎◌, ◌++◌, List, Bool, IsTrue, codes}
+use Rattle.std.specs.Prelude.{ℕ, ◌≡◌, ◌⊎◌, ◌++◌, List, Bool, true, IsTrue, codes}
 use Rattle.byte_text.specs.Counts.{Rose}
 use Rattle.cache_outside.specs.Listing.{Listing}
+use Rattle.cache_outside.specs.Frames.{MakerView}
 use Rattle.cache_outside.specs.Sinks.{SinkView, behind}
 use Rattle.run_setup.specs.Words.{Term}
-use Rattle.script_run.specs.Runs.{IsFront}
+use Rattle.script_run.specs.Runs.{CoreSeen, IsFront}
 use Rattle.mount_tool.specs.Replies.{status_of}
 use Rattle.mount_tool.specs.Terms.{term_reply}
 use Rattle.mount_script.specs.Replies.{text_of}
@@ -37,3 +38,8 @@ pub record IsTermRun (tells : Bool) (blobs : Listing) (t : Term) (faults_before 
   pub reply : Reply
   pub allowed : IsAllowed tells (term_reply blobs t) faults_before faults_now reply
   pub written : IsWritten sink_before sink_now (text_of reply ++ codes "\n") (status_of reply) status
+
+-- The frames of a core that a maker made: whether they tell is known, they do where the maker's do, and where its frames are steady none ever failed.
+pub record IsOverFrames (m : MakerView) (told : Bool) (core : CoreSeen) : Type 0 where
+  pub tell : IsTrue m.tells → told ≡ true
+  pub steady : IsTrue m.steady → (core.faults_before ≡ 0) × (core.faults_now ≡ 0)

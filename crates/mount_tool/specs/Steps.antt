@@ -10,15 +10,14 @@ use Rattle.mount_script.specs.declared.error.ScriptError.TheVariants as script
 use Rattle.run_setup.specs.declared.settings.RunSettings.{RunSettings}
 use Rattle.run_setup.specs.Settings.{config_of}
 use Rattle.script_run.specs.Blocks.{alone}
-use Rattle.script_run.specs.Counters.{CoreNumbers}
-use Rattle.script_run.specs.Runs.{IsRun, Outside}
+use Rattle.script_run.specs.Runs.{IsRun, CoreSeen, Outside}
 use Rattle.script_run.specs.declared.ended.Ended.{Ended}
 use Rattle.cache_table.specs.Views.{PassView}
 use Rattle.script_run.specs.Lines.{cached}
 use Rattle.shared_run.specs.Blocks.{several}
 use Rattle.shared_run.specs.Runs.{IsSharedRun, Outsides}
 use Rattle.mount_tool.specs.Replies.{error_text, run_status}
-use Rattle.mount_tool.specs.Runs.{IsNoted}
+use Rattle.mount_tool.specs.Runs.{IsNoted, IsOverFrames}
 
 -- why a text is no script was written with status 3; or memory was wanted before, with status 6, and nothing was written
 abbrev pub IsRefusal : ScriptError → SinkView → SinkView → ℕ → Type 0
@@ -30,13 +29,13 @@ IsRefusal e before now status = IsNoted before now (error_text e) 3 status
 pub data BlocksEnding : Type 0 where
   without_frames : BlocksEnding
   without_room : BlocksEnding
-  over : Bool → CoreNumbers → Ended → BlocksEnding
+  over : Bool → CoreSeen → Ended → BlocksEnding
 
 abbrev pub BlocksEnd : Bool → Listing → RunSettings → List (List Line) → MakerView → MakerView → Outside → Outside → BlocksEnding → ℕ → Type 0
 BlocksEnd tells blobs s blocks m n x y without_frames status = (status ≡ 7) × Rose m.faults n.faults × (y ≡ x)
 BlocksEnd tells blobs s blocks m n x y without_room status = (status ≡ 6) × (y ≡ x)
-BlocksEnd tells blobs s blocks m n x y (over told numbers ended) status =
-    (status ≡ run_status ended) × (IsTrue m.tells → told ≡ true) × IsRun (alone (tells && told) blobs s.regions) blocks x y numbers ended
+BlocksEnd tells blobs s blocks m n x y (over told core ended) status =
+    (status ≡ run_status ended) × IsOverFrames m told core × IsRun (cached tells blobs (config_of s)) (alone (tells && told) blobs s.regions) blocks x y core ended
 
 pub record BlocksEnded (tells : Bool) (blobs : Listing) (s : RunSettings) (blocks : List (List Line)) (m n : MakerView) (x y : Outside) (status : ℕ) : Type 0 where
   pub ending : BlocksEnding

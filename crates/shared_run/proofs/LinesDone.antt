@@ -7,6 +7,7 @@ use Rattle.std.proofs.lemmas.List.{length-append}
 use Rattle.std.proofs.lemmas.List.Folds.{list_any-append}
 use Rattle.std.proofs.lemmas.List.Sums.{sum_by_push}
 use Rattle.byte_text.specs.Counts.{Rose}
+use Rattle.directory_input.specs.Reads as directory
 use Rattle.region_ranges.specs.declared.keys.Config.{Config}
 use Rattle.cache_outside.specs.Listing.{Listing}
 use Rattle.cache_outside.specs.Sources.{SourceView}
@@ -237,8 +238,9 @@ module _ (range : ℕ) (tells : Bool) (r : RosterView) (c : Command) (y z : Mome
         (same_grew _ _ 0 (ap (λ (m : Moment). m.door.work.stored) e) refl) (same_grew _ _ 0 (ap (λ (m : Moment). m.door.work.turned_away) e) refl);
   }
 
-  reads : (e : Cached) (m : MountView) (now : ℕ) (x : Reply) (report : Report) → e.config.range ≡ range → e.tells ≡ tells → IsQuiet x → FilesRead (reading e m now) x report y z → LineWorks range tells r c x y z
-  reads e m now x report wide told q h =
+  reads : (e : Cached) (m : MountView) (now : ℕ) (asked : Option (List directory.Read)) (x : Reply) (report : Report) → e.config.range ≡ range → e.tells ≡ tells → IsQuiet x
+      → FilesRead (reading e m now) asked x report y z → LineWorks range tells r c x y z
+  reads e m now asked x report wide told q h =
       let g = h.through.goes in
       record {
         decays = no_count _ _ (is_decayed x) g.work.decays q.decays;
@@ -290,9 +292,9 @@ module _ (tells : Bool) (blobs : Listing) (config : Config) (r : RosterView) (no
   line_works (Unmount name) (Some m) x shared is kind h = by_reply (Unmount name) x reply.Unmounted kind
       (asks config.range tells r (Unmount name) y z no_work (with_mount m.mount y.door.unmounted) reply.Unmounted h.source h.works h.mounts refl refl refl refl
       (λ n. set_or (n == m.mount) (y.door.unmounted n) ∙ ap (λ (k : Option MountView). has_number n k || y.door.unmounted n) (sym is)))
-  line_works (Search name size text) (Some m) x shared is kind h = reads config.range tells r (Search name size text) y z (cached tells blobs config) m now x report refl refl (files_quiet (Search name size text) x refl kind) h
-  line_works (Fetch name segment doc) (Some m) x shared is kind h = reads config.range tells r (Fetch name segment doc) y z (cached tells blobs config) m now x report refl refl (files_quiet (Fetch name segment doc) x refl kind) h
-  line_works (Read name file at len) (Some m) x shared is kind h = reads config.range tells r (Read name file at len) y z (cached tells blobs config) m now x report refl refl (files_quiet (Read name file at len) x refl kind) h
+  line_works (Search name size text) (Some m) x shared is kind h = reads config.range tells r (Search name size text) y z (cached tells blobs config) m now _ x report refl refl (files_quiet (Search name size text) x refl kind) h
+  line_works (Fetch name segment doc) (Some m) x shared is kind h = reads config.range tells r (Fetch name segment doc) y z (cached tells blobs config) m now _ x report refl refl (files_quiet (Fetch name segment doc) x refl kind) h
+  line_works (Read name file at len) (Some m) x shared is kind h = reads config.range tells r (Read name file at len) y z (cached tells blobs config) m now _ x report refl refl (files_quiet (Read name file at len) x refl kind) h
 
   -- a line that is refused, and asks for nothing
   pub refused_works : (c : Command) (text : List ℕ) (x : Reply) → IsOrNoMemory (refused text) x → z ≡ y → LineWorks config.range tells r c x y z

@@ -40,7 +40,8 @@ use Rattle.script_run.specs.declared.ended.Ended.TheVariants.{Done, SinkFault, N
 use Rattle.script_run.proofs.Behind.{written_more, front_more, behind_nothing}
 use Rattle.script_run.proofs.Blocks.{both_told, no_mounts_of, block_makes, block_made, same_mounts, number_cond, mount_mounts, mount_cases}
 use Rattle.script_run.proofs.Rosters.{mounted_with}
-use Rattle.script_run.proofs.Runs.{allowed_length, from_with, after_more, allowed_run, bears_add, faults_more, replies_more, some_more, count_more, many_more, clock_more, text_more, front_all, next_blocks, rose_on}
+use Rattle.script_run.proofs.Runs.{allowed_length, from_with, after_more, allowed_run, bears_add, faults_more, replies_more, some_more, many_more, clock_more, text_more, front_all, next_blocks, rose_on}
+use Rattle.script_run.proofs.Steps.{count_more}
 use Rattle.shared_run.specs.Blocks.{several, source_at, AllTook, BlockDid}
 use Rattle.shared_run.specs.Runs.{outsides, IsAsked, BytesTaken, BlockTaken, AllTaken, NoneRose, IsSharedRun, NoneGone, BlockRan, RunSoFar, WrittenSoFar}
 use Rattle.shared_run.specs.Workers.{ReplyKind, AllAnswered, has_number, unmounts, unmounted_by, is_decayed, is_cleared}

@@ -1,4 +1,5 @@
-// The commands by several workers: whole scripts, an unmount beside a search, and which bytes the sources give.
+// The commands by several workers: whole scripts, an unmount beside a search, and which bytes the sources give, those of
+// one worker as well.
 use crate::tests::{Left, called_by, smooth};
 use std::alloc::AllocError;
 
@@ -118,8 +119,8 @@ const SECOND: Read = (2, 4096, 4096);
 
 const LAST: Read = (2, 8192, 1808);
 
-/// The number of regions, a script, the time of each of its blocks, and what the first source gives. The other one
-/// gives nothing.
+/// The number of regions, a script, the time of each of its blocks, and what the first source gives. Where there is
+/// another, it gives nothing.
 type Taken = (&'static str, &'static str, &'static [u64], &'static [Read]);
 
 const TAKEN: [Taken; 3] = [
@@ -181,19 +182,23 @@ const TAKEN: [Taken; 3] = [
 #[test]
 fn bytes_of_the_sources(rt: HostRuntime) -> Result<(), AllocError> {
     let alloc = rt.alloc();
-    for (regions, script, times, reads) in TAKEN {
-        let words = ["run", "workers=2", "region=4096", "range=4096", regions];
-        let plan = smooth(alloc, 65_536);
-        let left = called_by(&rt, alloc, &words, script.as_bytes(), plan, 2, times)?;
-        let Left {
-            status,
-            sources,
-            ..
-        } = left;
-        assert_eq!(rt; status, 0);
-        assert!(rt; sources.len() == 2);
-        assert!(rt; sources[0].reads() == reads, "{script}");
-        assert!(rt; sources[1].reads().is_empty(), "{script}");
+    for (count, workers) in [(1, "workers=1"), (2, "workers=2")] {
+        for (regions, script, times, reads) in TAKEN {
+            let words = ["run", workers, "region=4096", "range=4096", regions];
+            let plan = smooth(alloc, 65_536);
+            let left = called_by(&rt, alloc, &words, script.as_bytes(), plan, count, times)?;
+            let Left {
+                status,
+                sources,
+                ..
+            } = left;
+            assert_eq!(rt; status, 0);
+            assert!(rt; sources.len() == count && 1 <= count);
+            assert!(rt; sources[0].reads() == reads, "{script}");
+            for other in &sources[1..] {
+                assert!(rt; other.reads().is_empty(), "{script}");
+            }
+        }
     }
     Ok(())
 }
