@@ -2,11 +2,10 @@
 use Rattle.std.proofs.Common.{arith, ◌≡◌, ◌<◌, ◌≤◌, ◌+◌, ℕ, zero, suc, Bool, true, false, List, [], ◌∷◌, ◌++◌, ◌∙◌, ap, inl, inr, refl, length, take, drop, Some, None, append_assoc, append-nil}
 use Rattle.std.specs.Prelude.{not, ◌==◌, filter, slice_get}
 use Rattle.std.proofs.lemmas.Bool.{cases_eq, cases_Bool}
-use Rattle.std.proofs.lemmas.Bool.Decides.{nat_tests}
 use Rattle.std.proofs.lemmas.List.Elements.{filter-append}
 use Rattle.freq_lists.specs.Lists.{without, unlink, push_back, times, times_in, next, behind, is_in, head, list_at}
 use Rattle.cache_policy.specs.Steps.{lowering}
-use Rattle.freq_lists.proofs.Counts.{same_is, other_is, times_append, times_without, times_unlink, length_unlink as length-unlink}
+use Rattle.freq_lists.proofs.Counts.{same_is, other_is, times_append}
 use Rattle.freq_lists.proofs.Beside.{without_none}
 
 pub without_one : (n : ℕ) (xs ys : List ℕ) → times_in n (xs ++ n ∷ ys) ≤ 1 → without n (xs ++ n ∷ ys) ≡ xs ++ ys

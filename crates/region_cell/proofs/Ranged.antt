@@ -9,7 +9,7 @@ use Rattle.region_ranges.specs.declared.ranges.ByteRange.{ByteRange}
 use Rattle.region_ranges.specs.Ranges.{inside, aligned}
 use Rattle.sparse_tracker.specs.declared.tickets.Ticket.{Ticket}
 use Rattle.sparse_tracker.specs.ByteStates as byte_states
-use Rattle.sparse_tracker.specs.ByteStates.{ByteState, absent, pending, present, is_absent, is_under, change, Tracker, claimed_run, open_gap, open_gap_at, with_ticket, new_ticket, wait_for_range, fail_ticket, lacks, least_unused, ids}
+use Rattle.sparse_tracker.specs.ByteStates.{ByteState, absent, pending, present, is_absent, is_under, change, Tracker, open_gap, open_gap_at, with_ticket, new_ticket, fail_ticket, lacks, least_unused, ids}
 use Rattle.sparse_tracker.specs.Places.{ClaimPlaces}
 use Rattle.region_cell.specs.Cells.{Region, len_of, IsRanged, assign, claim, claim_run, range_round, progress, fail, leave}
 use Rattle.region_cell.proofs.Places.{slot_change, slot_map, slot_behind, slot_without, length_change, Spot, spot_of, spot_from, is_absent_gives}

@@ -1,10 +1,9 @@
 -- What a claim opens is open, and what was open stays open.
-use Rattle.std.proofs.Common.{inl, inr, sym, subst, ap, arith, ◌≡◌, ◌∙◌, ℕ, Option, List, [], ◌∷◌, ◌++◌, Some, None, true, false, Bool, refl}
+use Rattle.std.proofs.Common.{inl, inr, sym, subst, ap, arith, ◌≡◌, ℕ, Option, List, [], ◌∷◌, ◌++◌, Some, None, true, Bool, refl}
 use Rattle.std.specs.Prelude.{◌==◌, find, map, IsSome, IfSome, IfOk, OnOk, OnErr, Result, Ok, Err, option_map}
 use Rattle.std.proofs.lemmas.Bool.{cases_Bool}
 use Rattle.std.proofs.lemmas.Bool.Decides.{nat_tests}
 use Rattle.region_ranges.specs.declared.ranges.ByteRange.{ByteRange}
-use Rattle.sparse_tracker.specs.declared.gaps.OpenGap.{OpenGap}
 use Rattle.sparse_tracker.specs.declared.tickets.Ticket.{Ticket}
 use Rattle.sparse_tracker.specs.declared.status.Gap.{Gap}
 use Rattle.sparse_tracker.specs.declared.status.Claim.{Claim}

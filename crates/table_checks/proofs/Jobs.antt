@@ -1,5 +1,5 @@
 -- One more job.
-use Rattle.std.proofs.Common.{arith, ◌++◌, ◌∷◌, [], ℕ, zero, suc, List}
+use Rattle.std.proofs.Common.{arith, ◌++◌, ◌∷◌, [], zero, suc, List}
 use Rattle.std.specs.Prelude.{All}
 use Rattle.std.proofs.lemmas.List.Elements.{All-append}
 

@@ -1,4 +1,4 @@
-use Rattle.std.proofs.Common.{◌≡◌, ◌∙◌, sym, ap, List, ℕ, ◌++◌, ◌∷◌, []}
+use Rattle.std.proofs.Common.{◌∙◌, sym, ap, List, ℕ, ◌++◌, ◌∷◌, []}
 use Rattle.std.specs.Prelude.{◌%◌}
 use Rattle.sample_archive.proofs.Counted.{counting_push}
 use Rattle.sample_archive.proofs.blobs.counting.Goals as goal
