@@ -4,6 +4,7 @@ use Rattle.std.specs.Prelude.{slice_get}
 use Rattle.std.specs.List.{range_with_len}
 use Rattle.std.proofs.lemmas.List.FromFn.{map-range_with_len_more}
 use Rattle.std.proofs.lemmas.Option.{slice_get_within}
+use Rattle.std.proofs.lemmas.List.{length-map}
 use Rattle.byte_text.proofs.Lists.{drop_get}
 use Rattle.cache_outside.specs.Listing.{Listing, place_of, blob_size}
 use Rattle.mount_manifest.specs.declared.record.FileRecord.{FileRecord}
@@ -140,10 +141,6 @@ map_pushed : {A B : Type 0} (g : A → B) (xs : List A) (x : A) → map g (xs ++
 map_pushed g [] x = refl
 map_pushed g (y ∷ xs) x = ap (λ r. g y ∷ r) (map_pushed g xs x)
 
-length_mapped : {A B : Type 0} (g : A → B) (xs : List A) → length (map g xs) ≡ length xs
-length_mapped g [] = refl
-length_mapped g (x ∷ xs) = ap suc (length_mapped g xs)
-
 module _ (tells : Bool) (blobs : Listing) (files : List FileRecord) where
   -- what an entry has to be at its place
   Fits : ℕ → FileParts → Type 0
@@ -157,7 +154,7 @@ module _ (tells : Bool) (blobs : Listing) (files : List FileRecord) where
   unfolding Fits
   entries_next stated entries e i f count at before own =
       let here : (g : FileRecord) → slice_get files (length (map stated entries)) ≡ Some g → IsEntry tells blobs g (stated e) =
-      λ g found. subst (λ h. IsEntry tells blobs h (stated e)) (only i f g at (let p = rw (length_mapped stated entries, count) at found in p)) own in
+      λ g found. subst (λ h. IsEntry tells blobs h (stated e)) (only i f g at (let p = rw (length-map entries stated, count) at found in p)) own in
       rw (map_pushed stated entries e) (pushed Fits (map stated entries) (stated e) before here)
 
   pub sized_files_next : (entries : List FileParts) (i : ℕ) (f : FileRecord) (file : FileParts) → slice_get files i ≡ Some f → slice_get entries i ≡ Some file

@@ -13,7 +13,7 @@ use Rattle.blob_parts.specs.Tables.{FileParts, IsCut, IsFound, IsTable, AreNamed
 use Rattle.blob_parts.specs.Resolving.{IsEntry, AreEntries, AreSized, AllSized}
 use Rattle.blob_parts.proofs.Named.{place_below}
 
-there_is : {X : Type 0} (xs : List X) (i : ℕ) → i < length xs → (x : X) × (slice_get xs i ≡ Some x)
+pub there_is : {X : Type 0} (xs : List X) (i : ℕ) → i < length xs → (x : X) × (slice_get xs i ≡ Some x)
 there_is [] i h = absurd (omega (arith, h))
 there_is (x ∷ xs) zero h = (x, refl)
 there_is (x ∷ xs) (suc i) h = there_is xs i (omega (arith, h))

@@ -30,7 +30,7 @@ took_both (Some before) u v first then a b =
       flat_map-append spread_one a.0 own.0 ∙ ap (λ r. r ++ spread own.0) a.2 ∙ ap (λ r. first ++ r) own.2,
     )
 
-allowed_more : (table : TableParts) (rs ss : List Read) → AreInTable table rs → AreInTable table ss → AreInTable table (rs ++ ss)
+pub allowed_more : (table : TableParts) (rs ss : List Read) → AreInTable table rs → AreInTable table ss → AreInTable table (rs ++ ss)
 allowed_more table [] ss h k = k
 allowed_more table (r ∷ rs) ss h k = (h.0, h.1, allowed_more table rs ss h.2 k)
 
@@ -39,13 +39,13 @@ fronts_more [] yss xs ys h k = rw h k
 fronts_more (x ∷ xss) yss xs ys h k =
     (h.0, h.1 ++ ys, ap (λ r. r ++ ys) h.2 ∙ append_assoc (take h.0 x) h.1 ys, fronts_more xss yss h.1 ys h.3 k)
 
-rose_first : (a b c : ℕ) → b ≤ c → Rose a b → Rose a c
+pub rose_first : (a b c : ℕ) → b ≤ c → Rose a b → Rose a c
 rose_first a b c h r = omega (arith, h, r)
 
-rose_then : (a b c : ℕ) → a ≤ b → Rose b c → Rose a c
+pub rose_then : (a b c : ℕ) → a ≤ b → Rose b c → Rose a c
 rose_then a b c h r = omega (arith, h, r)
 
-unmarked : (first then : Bool) → (IsTrue first → IsTrue then) → then ≡ false → first ≡ false
+pub unmarked : (first then : Bool) → (IsTrue first → IsTrue then) → then ≡ false → first ≡ false
 unmarked false then h e = refl
 unmarked true then h e = let raised = h refl in absurd (cc)
 

@@ -1,14 +1,15 @@
 -- What a claim, a store, a failure and a leave change in a cell is what they change in the actor's hold.
 use Rattle.std.proofs.Common.{arith, ◌≡◌, ◌≢◌, ◌<◌, ◌≤◌, ◌+◌, ℕ, zero, suc, Bool, true, false, List, [], ◌∷◌, sym, subst, ◌∙◌, ap, inl, inr, refl, length, Option, Some, None}
-use Rattle.std.specs.Prelude.{◌==◌, nat_lt, cond, slice_get, IfSome}
-use Rattle.std.proofs.lemmas.Bool.{cases_eq, cases_Bool, cases_lt}
+use Rattle.std.specs.Prelude.{nat_lt, cond, slice_get, IfSome}
+use Rattle.std.proofs.lemmas.Bool.{cases_eq, cases_lt, eq-eqb, ne_eqb}
 use Rattle.std.proofs.lemmas.Bool.Decides.{nat_tests}
 use Rattle.region_ranges.specs.declared.ranges.ByteRange.{ByteRange}
 use Rattle.region_ranges.specs.Keys.{free_tag, tag_of}
 use Rattle.sparse_tracker.specs.declared.gaps.OpenGap.{OpenGap}
 use Rattle.sparse_tracker.specs.ByteStates.{Tracker, least_unused, numbers, ids, open_gap_at, claimed_run, wait_for_range}
 use Rattle.sparse_tracker.specs.Weights.{by_ticket, by_gap, tickets_weigh, gaps_weigh, TicketWeights, GapWeights}
-use Rattle.freq_lists.specs.Lists.{is_in, times_in}
+use Rattle.freq_lists.specs.Lists.{is_in}
+use Rattle.freq_lists.proofs.Counts.{is_in_not}
 use Rattle.cache_policy.specs.Policy.{PolicyView, tag_at}
 use Rattle.cache_policy.specs.Kept as policy
 use Rattle.region_cell.specs.Cells as cells
@@ -19,16 +20,8 @@ use Rattle.cache_door.specs.Machine.{State, Cell, cell_at, hold_at, hold_on, gap
 use Rattle.cache_door.specs.Good.{Good, GoodCell, HoldFits}
 use Rattle.cache_door.proofs.Keeps.{Changes}
 use Rattle.cache_door.proofs.Found.{found_ticket, found_gap}
-use Rattle.freq_lists.proofs.Counts.{same_is, other_is}
 
 -- ---- a mapped region is not free
-
-absent_in : (r : ℕ) (xs : List ℕ) → times_in r xs ≡ 0 → is_in r xs ≡ false
-absent_in r [] e = refl
-absent_in r (x ∷ xs) e = elim (cases_Bool (x == r)) [
-  | inl t ↦ absurd (let h = rw t at e in omega (arith, h))
-  | inr f ↦ rw f (absent_in r xs (let h = rw f at e in omega (arith, h)))
-]
 
 past_tags : (ts : List (Option ℕ)) (r : ℕ) → length ts ≤ r → slice_get ts r ≡ None
 past_tags [] r h = refl
@@ -47,7 +40,7 @@ mapped_inside p r tag e = elim (cases_lt r (length p.tags)) [
 pub mapped_busy : (p : PolicyView) (r tag : ℕ) → policy.IsGood p → tag_at p r ≡ Some tag → is_in r p.free ≡ false
 mapped_busy p r tag kept e =
     let one : policy.one_if_some (tag_at p r) ≡ 1 = rw e refl in
-    absent_in r p.free (omega (arith, kept.once r (mapped_inside p r tag e), kept.mapped r, one))
+    is_in_not r p.free (omega (arith, kept.once r (mapped_inside p r tag e), kept.mapped r, one))
 
 -- ---- a claim
 
@@ -116,8 +109,8 @@ module _ {tells : Bool} {files : ℕ → ℕ → List ℕ} (tickets : TicketWeig
               let l : nat_lt h.gap.upto h.gap.end ≡ true = grind (arith, nat_tests) in
               let m = gaps.moved f h.gap.id to h.gap t (found_gap s a h good held opened) in
               rw l (elim (cases_eq to h.gap.end) [
-                | inl e ↦ let d : nat_lt to h.gap.end ≡ false = grind (arith, nat_tests) in rw d (omega (arith, rw (same_is to h.gap.end e) at m))
-                | inr n ↦ let d : nat_lt to h.gap.end ≡ true = grind (arith, nat_tests) in rw d (omega (arith, rw (other_is to h.gap.end n) at m))
+                | inl e ↦ let d : nat_lt to h.gap.end ≡ false = grind (arith, nat_tests) in rw d (omega (arith, rw (eq-eqb to h.gap.end e) at m))
+                | inr n ↦ let d : nat_lt to h.gap.end ≡ true = grind (arith, nat_tests) in rw d (omega (arith, rw (ne_eqb to h.gap.end n) at m))
               ]));
         }
       where

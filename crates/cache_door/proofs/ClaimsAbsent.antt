@@ -1,8 +1,8 @@
 -- What an entry claims was absent.
-use Rattle.std.proofs.Common.{arith, ◌≡◌, ◌<◌, ◌≤◌, ◌-◌, ◌/◌, ℕ, zero, suc, Bool, false, List, length, sym, subst, ap, inl, inr, refl, Option, Some, None}
+use Rattle.std.proofs.Common.{arith, ◌≡◌, ◌<◌, ◌≤◌, ◌-◌, ◌/◌, ℕ, zero, suc, Bool, false, List, sym, subst, inl, inr, refl, Option, Some, None}
 use Rattle.std.specs.Prelude.{◌==◌, slice_get, replicate}
-use Rattle.std.proofs.lemmas.List.{get_or-set_same}
-use Rattle.std.proofs.lemmas.Bool.{cases_Bool}
+use Rattle.std.proofs.lemmas.List.{get_or-set_same, length-replicate}
+use Rattle.std.proofs.lemmas.Bool.{cases_Bool, eqb-true}
 use Rattle.region_ranges.specs.declared.ranges.ByteRange.{ByteRange}
 use Rattle.region_ranges.specs.Ranges.{aligned}
 use Rattle.sparse_tracker.specs.ByteStates.{ByteState, absent}
@@ -19,7 +19,6 @@ use Rattle.cache_door.specs.Good.{Good}
 use Rattle.cache_door.specs.Doors.{IsWant}
 use Rattle.cache_door.proofs.Fronts.{front_there}
 use Rattle.cache_door.specs.Laws.{ClaimsAbsent}
-use Rattle.cache_door.proofs.Places.{is_same}
 
 pub gone_held : {q : ℕ} {o : Option ByteRange} → Gone ≡ Held q o → ⊥
 gone_held e = cc
@@ -51,7 +50,7 @@ entry_absent places s a mount r q now i want g config w found e low high = elim 
         | inl y ↦
             let held : Held r (claim_run s.config.range want.sub (cell_at s r).region) ≡ Held q (Some g) = rw y at there in
             let k = held_is r q (claim_run s.config.range want.sub (cell_at s r).region) (Some g) held in
-            let l = is_same (len_of (cell_at s r).region) want.len y in
+            let l = eqb-true (len_of (cell_at s r).region) want.len y in
             (k.0, run_absent places s.config.range i want (cell_at s r).region g config.range.0 w.sub.0 (omega (arith, l, w.sub.1)) w.sub.2 k.1 low high)
         | inr n ↦ absurd (room_held (rw n at there))
       ]
@@ -62,10 +61,6 @@ all_absent : (n i : ℕ) (l : ByteState) → slice_get (replicate n absent) i �
 all_absent zero i l e = absurd (cc)
 all_absent (suc n) zero l e = cc
 all_absent (suc n) (suc i) l e = all_absent n i l e
-
-length_all : (n : ℕ) → length (replicate {A = ByteState} n absent) ≡ n
-length_all zero = refl
-length_all (suc n) = ap (λ k. suc k) (length_all n)
 
 module _ (places : ClaimPlaces) {tells : Bool} {files : ℕ → ℕ → List ℕ} (s : State) (good : Good tells files s) (a q now i : ℕ) (want : Want) (g : ByteRange) (w : IsWant s.config want) (low : g.start ≤ i) (high : i < g.end) where
   abbrev new : Region
@@ -80,7 +75,7 @@ module _ (places : ClaimPlaces) {tells : Bool} {files : ℕ → ℕ → List ℕ
       let P : Cell → Type 0 = λ x. Held r (claim_run s.config.range want.sub x.region) ≡ Held q (Some g) in
       let k = held_is r q (claim_run s.config.range want.sub c) (Some g) (subst P here e) in
       let Q : ℕ → Type 0 = λ n. is_held s n ≡ false in
-      let l = length_all want.len in
+      let l = length-replicate want.len absent in
       (subst Q (sym k.0) open_is.1, run_absent places s.config.range i want c g good.config.range.0 w.sub.0 (omega (arith, l, w.sub.1)) w.sub.2 k.1 low high)
 
   found_front : (o : Option ℕ) → head (make_room s).free ≡ o → (place a o (make_room s) want now s).0 ≡ Held q (Some g) → (is_held s q ≡ false) × (slice_get new.tracker.byte_states i ≡ Some absent)

@@ -2,8 +2,8 @@
 use Rattle.std.proofs.Common.{arith, ◌≡◌, ◌<◌, ◌+◌, ℕ, zero, suc, true, List, [], ◌∷◌, sym, subst, ◌∙◌, ap, inl, inr, refl, length, set, Option, Some, None}
 use Rattle.std.specs.Prelude.{◌==◌}
 use Rattle.std.specs.List.{position_from}
-use Rattle.std.proofs.lemmas.Bool.{cases_Bool}
-use Rattle.std.proofs.lemmas.List.{get_or-set_same, length-set}
+use Rattle.std.proofs.lemmas.Bool.{cases_Bool, eq-eqb}
+use Rattle.std.proofs.lemmas.List.{get_or-set_same, length-set, length-map}
 use Rattle.region_ranges.specs.Keys.{tag_of}
 use Rattle.freq_lists.specs.Lists.{head}
 use Rattle.cache_policy.specs.Policy.{PolicyView, find, is_tag}
@@ -13,14 +13,13 @@ use Rattle.region_cell.specs.Cells.{CellView, FrameStays, Region, with_region, n
 use Rattle.cache_door.specs.declared.answers.Want.{Want}
 use Rattle.cache_door.specs.declared.hold.Hold.{Hold}
 use Rattle.cache_door.specs.Machine as machine
-use Rattle.cache_door.specs.Machine.{State, Cell, cell_at, hold_at, with_cell, settled_by, evicted, evicted_by, room_by, unheld_by, make_room, no_cell}
+use Rattle.cache_door.specs.Machine.{State, Cell, cell_at, with_cell, settled_by, evicted, room_by, unheld_by, make_room, no_cell}
 use Rattle.cache_door.specs.Doors.{IsHeld}
 use Rattle.cache_door.specs.Counters.{CountersRisen, counters_same}
 use Rattle.cache_door.specs.Cores.{CoreView, view_at, all_tell, cell_of, state_of, no_frame, Later}
 use Rattle.cache_door.proofs.Policies.{settled_all}
-use Rattle.cache_door.proofs.Frames.{cell_is, state_set, length_map, set_same, tell_same, steady_same, faults_later, faults_stand}
+use Rattle.cache_door.proofs.Frames.{cell_is, state_set, set_same, tell_same, steady_same, faults_later, faults_stand}
 use Rattle.cache_door.proofs.Held.{frame_same}
-use Rattle.freq_lists.proofs.Counts.{same_is}
 
 -- a cell with another number of claims for which there is room
 module _ (v : CoreView) (r : ℕ) (y : CellView) (within : r < length v.cells) (frame_is : y.metadata.frame ≡ (view_at v.cells r).metadata.frame) where
@@ -52,7 +51,7 @@ spare_state v r n within =
     let y : CellView = record (view_at v.cells r) { spare = n } in
     changed_state v r y within refl
     ∙ ap (λ (c : Cell). with_cell r c (state_of v)) (sym (cell_is v r within))
-    ∙ ap (λ (l : List Cell). let s : State = record (state_of v) { cells = l } in s) (set_same (state_of v).cells r no_cell (let l = length_map (cell_of (all_tell v.cells)) v.cells in omega (arith, l, within)))
+    ∙ ap (λ (l : List Cell). let s : State = record (state_of v) { cells = l } in s) (set_same (state_of v).cells r no_cell (let l = length-map v.cells (cell_of (all_tell v.cells)) in omega (arith, l, within)))
 
 -- a cell that is assigned
 pub assigned_state : (v : CoreView) (r tag len : ℕ) (p : PolicyView) → r < length v.cells
@@ -111,7 +110,7 @@ assigned_later v u r c p h within e =
 pub mapped_held : (v : CoreView) (r a now : ℕ) (want : Want) → r < length v.cells → len_of (view_at v.cells r).metadata.region ≡ want.len → IsHeld (machine.enter_at (Some r) a want now (state_of v)).0
 mapped_held v r a now want within l =
     let c : len_of (cell_at (state_of v) r).region ≡ want.len = ap (λ (q : Cell). len_of q.region) (cell_is v r within) ∙ l in
-    rw (same_is (len_of (cell_at (state_of v) r).region) want.len c) tt
+    rw (eq-eqb (len_of (cell_at (state_of v) r).region) want.len c) tt
 
 pub other_held : (v : CoreView) (r a now : ℕ) (want : Want) → head (room_by v.holds v.policy).free ≡ Some r → IsHeld (machine.enter_at None a want now (state_of v)).0
 other_held v r a now want front =
@@ -176,7 +175,7 @@ module _ (u0 u1 : CoreView) (r n : ℕ) (within : r < length u0.cells) (reserved
         → machine.hold a r want (state_of u2) ≡ machine.enter_at (Some r) a want now (state_of u0)
     mapped_entry e l =
         let c : len_of (cell_at (state_of u0) r).region ≡ want.len = ap (λ (q : Cell). len_of q.region) (cell_is u0 r within) ∙ l in
-        let t : (len_of (cell_at (state_of u0) r).region == want.len) ≡ true = same_is (len_of (cell_at (state_of u0) r).region) want.len c in
+        let t : (len_of (cell_at (state_of u0) r).region == want.len) ≡ true = eq-eqb (len_of (cell_at (state_of u0) r).region) want.len c in
         ap (λ (s : State). machine.hold a r want s) (touched_state e) ∙ sym (rw t refl)
 
     pub roomed_state : u2 ≡ record u1 { policy = room_by u1.holds u1.policy } → state_of u2 ≡ record (state_of u0) { policy = make_room (state_of u0) }

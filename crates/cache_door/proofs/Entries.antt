@@ -1,7 +1,8 @@
 -- The steps of an entry on a core: an access, room, an assignment, and the hold.
 use Rattle.std.proofs.Common.{arith, ◌≡◌, ◌≢◌, ◌<◌, ◌≤◌, ◌+◌, ◌-◌, ◌*◌, ◌/◌, ℕ, zero, suc, Bool, false, List, [], ◌∷◌, sym, subst, ◌∙◌, ap, inl, inr, refl, length, set, get_or, Option, Some, None}
 use Rattle.std.specs.Prelude.{Result, Ok, Err, OnOk, OnErr, ◌==◌, IfSome, slice_get, option_and_then, if◌then◌else◌}
-use Rattle.std.proofs.lemmas.Bool.{cases_eq, cases_Bool, false≢true}
+use Rattle.std.proofs.lemmas.Bool.{cases_eq, cases_Bool, false≢true, eq-eqb, ne_eqb}
+use Rattle.std.proofs.lemmas.List.{length-map}
 use Rattle.region_ranges.specs.Keys.{free_tag, tag_of}
 use Rattle.sparse_tracker.specs.Weights.{TicketWeights, GapWeights}
 use Rattle.freq_lists.specs.Lists.{head}
@@ -16,7 +17,7 @@ use Rattle.cache_door.specs.declared.answers.Entered.TheVariants.{Held}
 use Rattle.cache_door.specs.declared.hold.Hold.{Hold}
 use Rattle.cache_door.specs.declared.work.Work.{Work}
 use Rattle.cache_door.specs.Machine as machine
-use Rattle.cache_door.specs.Machine.{State, Cell, cell_at, hold_at, with_hold, with_cell, settled, settled_by, evicted, evicted_by, room_by, is_held, is_held_by, unheld_by, hold_on}
+use Rattle.cache_door.specs.Machine.{State, Cell, cell_at, hold_at, with_hold, with_cell, settled_by, evicted, evicted_by, room_by, is_held, is_held_by, unheld_by, hold_on}
 use Rattle.cache_door.specs.Good.{Good, GoodCell}
 use Rattle.cache_door.specs.Doors.{HoldView, hold_view, nothing, IsEntry, IsWant}
 use Rattle.cache_door.specs.Cores.{CoreView, view_at, all_tell, cell_of, state_of, no_frame, IsKept, Later}
@@ -24,10 +25,9 @@ use Rattle.cache_door.proofs.Policies.{touch_changes, settled_changes, unmap_cha
 use Rattle.cache_door.proofs.Mapping.{Maps, maps_keeps, free_unheld, no_tickets, no_gaps, head_in}
 use Rattle.cache_door.proofs.Fronts.{unheld_first, mapped_there, free_there, front_there}
 use Rattle.cache_door.proofs.Calls.{hold_changes, mapped_busy}
-use Rattle.cache_door.proofs.Frames.{cell_is, state_set, length_map, set_same}
+use Rattle.cache_door.proofs.Frames.{cell_is, state_set, set_same}
 use Rattle.cache_door.proofs.Kept.{policy_kept, cell_kept, new_good, set_sized}
 use Rattle.cache_door.proofs.Held.{frame_same, read_is, left_later, left_state}
-use Rattle.freq_lists.proofs.Counts.{same_is, other_is}
 
 pub work_kept : {tells : Bool} {files : ℕ → ℕ → List ℕ} (v : CoreView) (w : Work) → IsKept tells files v → IsKept tells files (record v { work = w })
 work_kept v w kept = record { good = kept.good; sized = kept.sized }
@@ -51,16 +51,16 @@ at ts j = option_and_then (λ (t : Option ℕ). t) (slice_get ts j)
 
 suc_is : (j r : ℕ) → (suc j == suc r) ≡ (j == r)
 suc_is j r = elim (cases_eq j r) [
-  | inl e ↦ same_is (suc j) (suc r) (ap (λ n. suc n) e) ∙ sym (same_is j r e)
-  | inr n ↦ other_is (suc j) (suc r) (λ e. n (omega (arith, e))) ∙ sym (other_is j r n)
+  | inl e ↦ eq-eqb (suc j) (suc r) (ap (λ n. suc n) e) ∙ sym (eq-eqb j r e)
+  | inr n ↦ ne_eqb (suc j) (suc r) (λ e. n (omega (arith, e))) ∙ sym (ne_eqb j r n)
 ]
 
 gone_at : (ts : List (Option ℕ)) (r j : ℕ) → at (set ts r None) j ≡ (if j == r then None else at ts j)
 unfolding at
 gone_at [] r j = elim (cases_Bool (j == r)) [ inl t ↦ rw t refl | inr f ↦ rw f refl ]
 gone_at (t ∷ ts) zero zero = refl
-gone_at (t ∷ ts) zero (suc j) = rw (other_is (suc j) zero (λ e. omega (arith, e))) refl
-gone_at (t ∷ ts) (suc r) zero = rw (other_is zero (suc r) (λ e. omega (arith, e))) refl
+gone_at (t ∷ ts) zero (suc j) = rw (ne_eqb (suc j) zero (λ e. omega (arith, e))) refl
+gone_at (t ∷ ts) (suc r) zero = rw (ne_eqb zero (suc r) (λ e. omega (arith, e))) refl
 gone_at (t ∷ ts) (suc r) (suc j) = rw (suc_is j r) (gone_at ts r j)
 
 unmap_tags : (p : PolicyView) (r j : ℕ) → tag_at (unmap r p) j ≡ (if j == r then None else tag_at p j)
@@ -126,7 +126,7 @@ spare_kept {tells} {files} v r x y kept within read e =
     let frame = x_frame v r x y kept within read new e in
     let c : machine.with_region r new (state_of v) ≡ state_of v =
     ap (λ (q : Region). machine.with_region r q (state_of v)) (sym (ap (λ (q : Cell). q.region) (cell_x v r x y kept within read)))
-    ∙ ap (λ (l : List Cell). let s : State = record (state_of v) { cells = l } in s) (set_same (state_of v).cells r machine.no_cell (let l = length_map (cell_of (all_tell v.cells)) v.cells in omega (arith, l, within))) in
+    ∙ ap (λ (l : List Cell). let s : State = record (state_of v) { cells = l } in s) (set_same (state_of v).cells r machine.no_cell (let l = length-map v.cells (cell_of (all_tell v.cells)) in omega (arith, l, within))) in
     record {
       good = let P : State → Type 0 = λ s. Good tells files s in subst P (sym (x_state v r x y kept within read new e ∙ c)) kept.good;
       sized = set_sized v r y kept within frame (x_range v r x y kept within read new e);
@@ -140,7 +140,7 @@ module _ {tells : Bool} {files : ℕ → ℕ → List ℕ} (v : CoreView) (r : �
   s = state_of v
 
   within_s : r < length s.cells
-  within_s = let l = length_map (cell_of (all_tell v.cells)) v.cells in omega (arith, l, within)
+  within_s = let l = length-map v.cells (cell_of (all_tell v.cells)) in omega (arith, l, within)
 
   off : is_held s r ≡ false
   off = free_unheld s r kept.good (head_in r v.policy.free front)
@@ -228,7 +228,7 @@ module _ {tells : Bool} {files : ℕ → ℕ → List ℕ} (v u : CoreView) (is 
       let range = x_range v r x y kept within read n called2 in
       let f = facts y h g (record { cell = ap (λ (c : CellView). c.metadata.region) called; hold = hold; gap = gap }) in
       let m = kept.good.mapped r (tag_of want.key) mapped in
-      let l = length_map (cell_of (all_tell v.cells)) v.cells in
+      let l = length-map v.cells (cell_of (all_tell v.cells)) in
       let change = hold_changes tickets gaps t a r want (cell_of (all_tell v.cells) y) actor (omega (arith, l, within)) none m.0 m.1 (mapped_busy v.policy r (tag_of want.key) kept.good.policy mapped)
       (some_run g (claim_run t.config.range want.sub (cell_at t r).region) f.gap some) f.cell (x_good v r x y kept within read n called2 good) in
       let k = hold_on t.config.range r want (cell_at t r).region in
@@ -262,7 +262,7 @@ module _ {tells : Bool} {files : ℕ → ℕ → List ℕ} (v u : CoreView) (is 
       let Q : CoreView → Type 0 = λ q. len_of (view_at q.cells r).metadata.region ≡ want.len in
       let n : len_of x.metadata.region ≡ want.len = sym (ap (λ (c : CellView). len_of c.metadata.region) (read_is v.cells r x (new_cell no_frame 0) read within)) ∙ subst Q (sym is) l in
       let P : CoreView → Type 0 = λ q. IsEntry q.config want (Held r g) in
-      let m = length_map (cell_of (all_tell v.cells)) v.cells in
+      let m = length-map v.cells (cell_of (all_tell v.cells)) in
       let R : ℕ → Type 0 = λ k. IfSome g (λ q. (q.start < q.end) × (want.sub.start / k * k ≤ q.start) × (q.end ≤ want.sub.start / k * k + k) × (q.end ≤ want.len)) in
       let S : ℕ → Type 0 = λ k. IfSome g (λ q. (q.start < q.end) × (want.sub.start / x.metadata.range * x.metadata.range ≤ q.start) × (q.end ≤ want.sub.start / x.metadata.range * x.metadata.range + x.metadata.range) × (q.end ≤ k)) in
       subst P is (omega (arith, m, within, kept.good.counts.cells), subst R range_t (subst S n f))
@@ -274,11 +274,11 @@ first_fact (Some q) m n k h = h.0
 -- ---- where the regions lie
 
 pub mapped_cells : {tells : Bool} {files : ℕ → ℕ → List ℕ} (v : CoreView) → IsKept tells files v → (r tag : ℕ) → tag_at v.policy r ≡ Some tag → r < length v.cells
-mapped_cells v kept r tag e = let l = length_map (cell_of (all_tell v.cells)) v.cells in omega (arith, l, mapped_there (state_of v) kept.good r tag e)
+mapped_cells v kept r tag e = let l = length-map v.cells (cell_of (all_tell v.cells)) in omega (arith, l, mapped_there (state_of v) kept.good r tag e)
 
 pub front_inside : {tells : Bool} {files : ℕ → ℕ → List ℕ} (v : CoreView) → IsKept tells files v → (r : ℕ) → head v.policy.free ≡ Some r → r < length v.cells
-front_inside v kept r e = let l = length_map (cell_of (all_tell v.cells)) v.cells in omega (arith, l, (free_there (state_of v) kept.good r e).0)
+front_inside v kept r e = let l = length-map v.cells (cell_of (all_tell v.cells)) in omega (arith, l, (free_there (state_of v) kept.good r e).0)
 
 pub choose_inside : {tells : Bool} {files : ℕ → ℕ → List ℕ} (v : CoreView) → IsKept tells files v → (o : Option ℕ) → o ≡ head (room_by v.holds v.policy).free → IfSome o (λ r. r < length v.cells)
 choose_inside v kept None e = tt
-choose_inside v kept (Some r) e = let l = length_map (cell_of (all_tell v.cells)) v.cells in omega (arith, l, (front_there (state_of v) kept.good r (sym e)).0)
+choose_inside v kept (Some r) e = let l = length-map v.cells (cell_of (all_tell v.cells)) in omega (arith, l, (front_there (state_of v) kept.good r (sym e)).0)

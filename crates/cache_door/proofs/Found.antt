@@ -1,8 +1,7 @@
 -- A hold's ticket and open gap are found in its region's cell.
-use Rattle.std.proofs.Common.{arith, ◌≡◌, ◌<◌, ◌≤◌, ℕ, zero, suc, Bool, true, List, [], ◌∷◌, sym, subst, ◌∙◌, ap, inl, inr, refl, length, Some, None}
+use Rattle.std.proofs.Common.{arith, ◌≡◌, ◌<◌, ◌≤◌, ℕ, Bool, true, List, sym, subst, ◌∙◌, ap, inl, inr, refl, length, Some, None}
 use Rattle.std.specs.Prelude.{◌==◌, nat_lt, cond, slice_get}
-use Rattle.std.specs.List.{find}
-use Rattle.std.proofs.lemmas.Bool.{cases_Bool, cases_lt, false≢true}
+use Rattle.std.proofs.lemmas.Bool.{cases_Bool, cases_lt, eq-eqb, eqb-true}
 use Rattle.std.proofs.lemmas.Bool.Decides.{nat_tests}
 use Rattle.sparse_tracker.specs.declared.gaps.OpenGap.{OpenGap}
 use Rattle.sparse_tracker.specs.declared.tickets.Ticket.{Ticket}
@@ -13,8 +12,7 @@ use Rattle.cache_door.specs.declared.hold.Hold.{Hold}
 use Rattle.cache_door.specs.Machine.{State, cell_at, hold_at}
 use Rattle.cache_door.specs.Good.{Good, weigh_hold, hold_ticket, hold_gap}
 use Rattle.cache_door.proofs.Weighs.{total-at, weigh_here}
-use Rattle.cache_door.proofs.Places.{is_same, past}
-use Rattle.freq_lists.proofs.Counts.{same_is}
+use Rattle.cache_door.proofs.Places.{past}
 
 -- 1 at these three numbers, else 0
 abbrev pub mark : ℕ → ℕ → ℕ → ℕ → ℕ → ℕ → ℕ
@@ -24,7 +22,7 @@ pub marked : (a b c x y z : ℕ) → 0 < mark a b c x y z → (x ≡ a) × (y �
 marked a b c x y z h = elim (cases_Bool (x == a)) [
   | inl i ↦ elim (cases_Bool (y == b)) [
     | inl j ↦ elim (cases_Bool (z == c)) [
-      | inl k ↦ (is_same x a i, is_same y b j, is_same z c k)
+      | inl k ↦ (eqb-true x a i, eqb-true y b j, eqb-true z c k)
       | inr k ↦ absurd (let g = rw (i, j, k) at h in omega (arith, g))
     ]
     | inr j ↦ absurd (let g = rw (i, j) at h in omega (arith, g))
@@ -33,7 +31,7 @@ marked a b c x y z h = elim (cases_Bool (x == a)) [
 ]
 
 pub mark_self : (a b c : ℕ) → mark a b c a b c ≡ 1
-mark_self a b c = rw (same_is a a refl, same_is b b refl, same_is c c refl) refl
+mark_self a b c = rw (eq-eqb a a refl, eq-eqb b b refl, eq-eqb c c refl) refl
 
 hold_weighs : (f : Hold → ℕ) (s : State) (a : ℕ) (h : Hold) → hold_at s a ≡ Some h → f h ≤ total (weigh_hold h.region f) s.holds
 hold_weighs f s a h e = elim (cases_lt a (length s.holds)) [
@@ -60,8 +58,8 @@ found_ticket s a h good e =
     let some : 0 < total (by_ticket f) t.tickets = omega (arith, w, o, m) in
     let x = heavy (by_ticket f) t.tickets some in
     let k = marked h.ticket h.sub.start h.sub.end x.1.0.number x.1.0.start x.1.0.end x.1.2 in
-    let y = first_is (λ (q : Ticket). q.number == h.ticket) t.tickets x.0 x.1.0 x.1.1 (same_is x.1.0.number h.ticket k.0) in
-    let n = is_same y.1.0.number h.ticket y.1.3 in
+    let y = first_is (λ (q : Ticket). q.number == h.ticket) t.tickets x.0 x.1.0 x.1.1 (eq-eqb x.1.0.number h.ticket k.0) in
+    let n = eqb-true y.1.0.number h.ticket y.1.3 in
     let i = (good.cells h.region fits.region).tracker.numbers y.0 x.0 y.1.0 x.1.0 y.1.2 x.1.1 (n ∙ sym k.0) in
     let P : ℕ → Type 0 = λ q. slice_get t.tickets q ≡ Some y.1.0 in
     let same : y.1.0 ≡ x.1.0 = (let g = subst P i y.1.2 in let h = x.1.1 in cc) in
@@ -81,8 +79,8 @@ found_gap s a h good e opened =
     let some : 0 < total (by_gap f) t.gaps = omega (arith, w, o, v) in
     let x = heavy (by_gap f) t.gaps some in
     let k = marked h.gap.id h.gap.upto h.gap.end x.1.0.id x.1.0.upto x.1.0.end x.1.2 in
-    let y = first_is (λ (q : OpenGap). q.id == h.gap.id) t.gaps x.0 x.1.0 x.1.1 (same_is x.1.0.id h.gap.id k.0) in
-    let n = is_same y.1.0.id h.gap.id y.1.3 in
+    let y = first_is (λ (q : OpenGap). q.id == h.gap.id) t.gaps x.0 x.1.0 x.1.1 (eq-eqb x.1.0.id h.gap.id k.0) in
+    let n = eqb-true y.1.0.id h.gap.id y.1.3 in
     let i = (good.cells h.region fits.region).tracker.ids y.0 x.0 y.1.0 x.1.0 y.1.2 x.1.1 (n ∙ sym k.0) in
     let P : ℕ → Type 0 = λ q. slice_get t.gaps q ≡ Some y.1.0 in
     let same : y.1.0 ≡ x.1.0 = (let g = subst P i y.1.2 in let h = x.1.1 in cc) in

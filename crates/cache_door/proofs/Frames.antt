@@ -1,9 +1,9 @@
 -- One cell of a core changes: what that makes of its state, and of the frames all together.
-use Rattle.std.proofs.Common.{arith, ◌≡◌, ◌<◌, ◌≤◌, ℕ, zero, suc, Bool, List, [], ◌∷◌, sym, ◌∙◌, ap, inl, inr, refl, length, set, get_or, map}
+use Rattle.std.proofs.Common.{arith, ◌≡◌, ◌<◌, ◌≤◌, ℕ, zero, suc, Bool, List, [], ◌∷◌, sym, ◌∙◌, ap, inl, inr, refl, length, set, get_or}
 use Rattle.std.specs.Prelude.{◌&&◌, IsTrue}
 use Rattle.std.specs.List.{list_all}
 use Rattle.std.proofs.lemmas.Bool.{cases_Bool, false≢true}
-use Rattle.std.proofs.lemmas.List.{map-set}
+use Rattle.std.proofs.lemmas.List.{map-set, get_or-map}
 use Rattle.std.proofs.lemmas.List.Folds.{list_all_at}
 use Rattle.region_cell.specs.Cells.{CellView, FrameStays, new_cell}
 use Rattle.cache_door.specs.Machine.{cell_at, with_cell, no_cell}
@@ -26,17 +26,8 @@ set_twice [] i x y = refl
 set_twice (z ∷ zs) zero x y = refl
 set_twice (z ∷ zs) (suc i) x y = ap (λ (l : List _). z ∷ l) (set_twice zs i x y)
 
-pub map_at : {X Y : Type 0} (f : X → Y) (xs : List X) (i : ℕ) (d : X) (e : Y) → i < length xs → get_or (map f xs) i e ≡ f (get_or xs i d)
-map_at f [] i d e h = absurd (omega (arith, h))
-map_at f (x ∷ xs) zero d e h = refl
-map_at f (x ∷ xs) (suc i) d e h = map_at f xs i d e (omega (arith, h))
-
-pub length_map : {X Y : Type 0} (f : X → Y) (xs : List X) → length (map f xs) ≡ length xs
-length_map f [] = refl
-length_map f (x ∷ xs) = omega (arith, length_map f xs)
-
 pub cell_is : (v : CoreView) (r : ℕ) → r < length v.cells → cell_at (state_of v) r ≡ cell_of (all_tell v.cells) (view_at v.cells r)
-cell_is v r h = map_at (cell_of (all_tell v.cells)) v.cells r (new_cell no_frame 0) no_cell h
+cell_is v r h = get_or-map (cell_of (all_tell v.cells)) v.cells r (new_cell no_frame 0) no_cell h
 
 module _ (v : CoreView) (r : ℕ) (c : CellView) (inside : r < length v.cells) (frame : FrameStays (view_at v.cells r).metadata.frame c.metadata.frame) where
   abbrev changed : CoreView

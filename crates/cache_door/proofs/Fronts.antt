@@ -1,8 +1,9 @@
 -- Where the regions lie, and that nobody holds the one that an entry for another key takes.
-use Rattle.std.proofs.Common.{arith, ◌≡◌, ◌<◌, ℕ, Bool, true, false, List, [], ◌∷◌, sym, subst, ◌∙◌, inl, inr, refl, length, Option, Some, None}
-use Rattle.std.specs.Prelude.{◌==◌, not}
+use Rattle.std.proofs.Common.{arith, ◌≡◌, ◌<◌, ℕ, Bool, true, false, List, sym, subst, ◌∙◌, inl, inr, refl, length, Option, Some, None}
+use Rattle.std.specs.Prelude.{not}
 use Rattle.std.proofs.lemmas.Bool.{cases_Bool, cases_lt, false≢true}
-use Rattle.freq_lists.specs.Lists.{is_in, head, times_in}
+use Rattle.freq_lists.specs.Lists.{is_in, head}
+use Rattle.freq_lists.proofs.Counts.{is_in_times}
 use Rattle.cache_policy.specs.Policy.{PolicyView, tag_at}
 use Rattle.cache_policy.specs.Ageing.{candidates}
 use Rattle.cache_policy.specs.Kept as policy
@@ -21,13 +22,6 @@ unheld_first holds rs r e = let h = (head_passes (λ m. not (is_held_by holds m)
   | inr f ↦ f
 ]
 
-pub in_times : (r : ℕ) (xs : List ℕ) → is_in r xs ≡ true → 0 < times_in r xs
-in_times r [] e = absurd (false≢true e)
-in_times r (x ∷ xs) e = elim (cases_Bool (x == r)) [
-  | inl t ↦ rw t (omega arith)
-  | inr f ↦ let h = in_times r xs (rw f at e) in omega (arith, h)
-]
-
 pub placed_inside : (p : PolicyView) (r : ℕ) → policy.IsGood p → 0 < policy.places p r → r < length p.tags
 placed_inside p r kept h = elim (cases_lt r (length p.tags)) [
   | inl l ↦ l
@@ -42,7 +36,7 @@ module _ {tells : Bool} {files : ℕ → ℕ → List ℕ} (s : State) (good : G
   mapped_there r tag e = tagged r (mapped_inside s.policy r tag e)
 
   in_free : (r : ℕ) → is_in r s.policy.free ≡ true → r < length s.cells
-  in_free r e = let t = in_times r s.policy.free e in tagged r (placed_inside s.policy r good.policy (omega (arith, t)))
+  in_free r e = let t = is_in_times r s.policy.free e in tagged r (placed_inside s.policy r good.policy (omega (arith, t)))
 
   -- a region that is not held, and one of the cache's
   abbrev IsOpen : ℕ → Type 0
@@ -53,12 +47,12 @@ module _ {tells : Bool} {files : ℕ → ℕ → List ℕ} (s : State) (good : G
 
   in_leaving : (r : ℕ) → head (unheld_by s.holds s.policy.leaving) ≡ Some r → IsOpen r
   in_leaving r e =
-      let t = in_times r s.policy.leaving (head_passes (λ m. not (is_held_by s.holds m)) r s.policy.leaving e).1 in
+      let t = is_in_times r s.policy.leaving (head_passes (λ m. not (is_held_by s.holds m)) r s.policy.leaving e).1 in
       (tagged r (placed_inside s.policy r good.policy (omega (arith, t))), unheld_first s.holds s.policy.leaving r e)
 
   in_candidates : (r : ℕ) → head (unheld_by s.holds (candidates s.policy)) ≡ Some r → IsOpen r
   in_candidates r e =
-      let t = in_times r (candidates s.policy) (head_passes (λ m. not (is_held_by s.holds m)) r (candidates s.policy) e).1 in
+      let t = is_in_times r (candidates s.policy) (head_passes (λ m. not (is_held_by s.holds m)) r (candidates s.policy) e).1 in
       let c = candidate_times r s.policy.lists in
       (tagged r (placed_inside s.policy r good.policy (omega (arith, t, c))), unheld_first s.holds (candidates s.policy) r e)
 

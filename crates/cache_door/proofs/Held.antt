@@ -1,7 +1,7 @@
 -- The calls of an actor that holds a region, on a core: what each leaves is kept, and is the machine's.
 use Rattle.std.proofs.Common.{arith, ◌≡◌, ◌<◌, ◌≤◌, ℕ, Bool, List, sym, subst, ◌∙◌, ap, refl, length, set, get_or, Option, Some, None}
 use Rattle.std.specs.Prelude.{IsSome}
-use Rattle.std.proofs.lemmas.List.{length-set, get_or_default}
+use Rattle.std.proofs.lemmas.List.{length-set, get_or_default, length-map}
 use Rattle.sparse_tracker.specs.ByteStates.{gap_of, ticket_of}
 use Rattle.sparse_tracker.specs.Weights.{TicketWeights, GapWeights}
 use Rattle.region_cell.specs.Cells as cells
@@ -18,7 +18,7 @@ use Rattle.cache_door.specs.Cores.{CoreView, view_at, all_tell, cell_of, state_o
 use Rattle.cache_door.proofs.Keeps.{Changes}
 use Rattle.cache_door.proofs.Calls.{fail_changes, leave_changes}
 use Rattle.cache_door.proofs.Found.{found_gap, found_ticket}
-use Rattle.cache_door.proofs.Frames.{cell_is, state_set, length_map, tell_same, steady_same, faults_later, faults_stand}
+use Rattle.cache_door.proofs.Frames.{cell_is, state_set, tell_same, steady_same, faults_later, faults_stand}
 use Rattle.cache_door.proofs.Kept.{cell_kept, new_good}
 
 pub frame_same : (old new : FrameMetadata) → new ≡ old → FrameStays old new
@@ -69,7 +69,7 @@ module _ {tells : Bool} {files : ℕ → ℕ → List ℕ} (v u : CoreView) (is 
   fits = kept.good.holds a h held
 
   pub inside : h.region < length v.cells
-  inside = let l = length_map (cell_of (all_tell v.cells)) v.cells in omega (arith, l, fits.region)
+  inside = let l = length-map v.cells (cell_of (all_tell v.cells)) in omega (arith, l, fits.region)
 
   -- what is told of the hold, as contracts see it
   pub told_is : hold_view (hold_at (state_of u) a) ≡ hold_view (Some h)

@@ -2,14 +2,14 @@
 use Rattle.std.proofs.Common.{arith, ◌≡◌, ◌<◌, ℕ, Bool, true, List, ◌++◌, refl, sym, subst, ◌∙◌, ap, inl, inr, length, set, Option, None}
 use Rattle.std.specs.Prelude.{IsTrue, slice_set, if◌then◌else◌}
 use Rattle.std.proofs.lemmas.Bool.{cases_eq, cases_Bool, false≢true}
-use Rattle.std.proofs.lemmas.List.{get_or-set_same, get_or-set_other, length-set}
+use Rattle.std.proofs.lemmas.List.{get_or-set_same, get_or-set_other, length-set, length-map}
 use Rattle.std.proofs.lemmas.List.Folds.{list_all_at}
 use Rattle.region_ranges.specs.declared.keys.Config.{Config}
 use Rattle.cache_policy.specs.Policy.{PolicyView, tag_at, clear, regions_from, is_of}
 use Rattle.cache_policy.specs.Ageing.{decay}
 use Rattle.cache_policy.specs.Kept as policy
 use Rattle.region_cell.specs.Cells as cells
-use Rattle.region_cell.specs.Cells.{CellView, FrameStays, with_region, new_cell}
+use Rattle.region_cell.specs.Cells.{CellView, FrameStays, new_cell}
 use Rattle.cache_door.specs.declared.hold.Hold.{Hold}
 use Rattle.cache_door.specs.declared.work.Work.{Work}
 use Rattle.cache_door.specs.Machine.{State, with_hold, settled, settled_by}
@@ -18,7 +18,7 @@ use Rattle.cache_door.specs.Counters.{CountersRisen, counters_on, counters_clear
 use Rattle.cache_door.specs.Cores.{CoreView, view_at, all_tell, cell_of, state_of, no_frame, IsKept, Later}
 use Rattle.cache_door.proofs.Keeps.{Changes, keeps}
 use Rattle.cache_door.proofs.Policies.{PolicyChanges, policy_keeps, decay_changes, clear_changes, settled_changes}
-use Rattle.cache_door.proofs.Frames.{state_set, length_map}
+use Rattle.cache_door.proofs.Frames.{state_set}
 
 -- ---- the policy alone changes
 
@@ -102,7 +102,7 @@ module _ {tells : Bool} {files : ℕ → ℕ → List ℕ} (v : CoreView) (r : �
   new_good good = let s = kept.sized r inside in good_cell (all_tell v.cells) v.config c good (range ∙ s.0) (frame.size ∙ s.1) one_tells
 
   pub inside_state : r < length (state_of v).cells
-  inside_state = let l = length_map (cell_of (all_tell v.cells)) v.cells in omega (arith, l, inside)
+  inside_state = let l = length-map v.cells (cell_of (all_tell v.cells)) in omega (arith, l, inside)
 
   pub cell_kept : (a : ℕ) (o : Option Hold) (w : Work) → Changes tells files (state_of v) a r (cell_of (all_tell v.cells) c) o
       → IsKept tells files (record v { cells = set v.cells r c; holds = set v.holds a o; work = w })

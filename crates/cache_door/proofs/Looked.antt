@@ -2,8 +2,9 @@
 use Rattle.std.proofs.Common.{arith, ◌≡◌, ◌<◌, ◌≤◌, ◌+◌, ◌-◌, ◌/◌, min, ℕ, Bool, true, List, sym, subst, ◌∙◌, ap, inl, inr, refl, length, set, get_or, Option, Some}
 use Rattle.std.specs.Prelude.{◌==◌, ◌↔◌, IsTrue, IfSome}
 use Rattle.std.specs.List.{list_all, list_any}
-use Rattle.std.proofs.lemmas.Bool.{cases_Bool, false≢true}
+use Rattle.std.proofs.lemmas.Bool.{cases_Bool, false≢true, eqb-true}
 use Rattle.std.proofs.lemmas.List.Folds.{list_all_at}
+use Rattle.std.proofs.lemmas.List.{length-map}
 use Rattle.sparse_tracker.specs.declared.status.Status.TheVariants as status_of
 use Rattle.sparse_tracker.specs.declared.tickets.Ticket.{Ticket}
 use Rattle.sparse_tracker.specs.ByteStates.{Tracker, ticket_of, byte_states_in, is_absent, is_present, status}
@@ -24,12 +25,11 @@ use Rattle.cache_door.specs.declared.answers.Glance.TheVariants as glance
 use Rattle.cache_door.specs.Machine.{State, Cell, cell_at, hold_at, with_cell, taken_of, look_at}
 use Rattle.cache_door.specs.Good.{Good}
 use Rattle.cache_door.specs.Doors.{HoldView, hold_view, IsWant, CopyOrFault}
-use Rattle.cache_door.proofs.Places.{is_same}
 use Rattle.cache_door.specs.Counters.{counters_same}
 use Rattle.cache_door.specs.Cores.{CoreView, view_at, all_tell, all_steady, all_faults, cell_of, state_of, no_frame, IsKept, Later}
 use Rattle.cache_door.proofs.Weighs.{total-set, total-at}
 use Rattle.cache_door.proofs.Found.{found_ticket}
-use Rattle.cache_door.proofs.Frames.{cell_is, state_set, length_map, set_same, tell_same, steady_same, faults_later, faults_stand, one_steady}
+use Rattle.cache_door.proofs.Frames.{cell_is, state_set, set_same, tell_same, steady_same, faults_later, faults_stand, one_steady}
 use Rattle.cache_door.proofs.Kept.{set_sized}
 use Rattle.cache_door.proofs.Held.{read_is, held, inside, told_is, cell_here, fits}
 
@@ -49,7 +49,7 @@ module _ {tells : Bool} {files : ℕ → ℕ → List ℕ} (v u : CoreView) (is 
   with_same : with_cell r (cell_of (all_tell v.cells) y) (state_of v) ≡ state_of v
   with_same =
       ap (λ (c : Cell). with_cell r c (state_of v)) cell_same
-      ∙ ap (λ (l : List Cell). let s : State = record (state_of v) { cells = l } in s) (set_same (state_of v).cells r machine.no_cell (let l = length_map (cell_of (all_tell v.cells)) v.cells in omega (arith, l, within)))
+      ∙ ap (λ (l : List Cell). let s : State = record (state_of v) { cells = l } in s) (set_same (state_of v).cells r machine.no_cell (let l = length-map v.cells (cell_of (all_tell v.cells)) in omega (arith, l, within)))
 
   pub seen_state : (w : Work) → state_of (record v { cells = set v.cells r y; work = w }) ≡ state_of u
   seen_state w = state_set v r y within frame ∙ with_same ∙ ap state_of is
@@ -196,7 +196,7 @@ pub regions_inside : {tells : Bool} {files : ℕ → ℕ → List ℕ} (v u : Co
 regions_inside v u is kept r h =
     let P : CoreView → Type 0 = λ q. r < q.config.regions in
     let g = subst P (sym is) h in
-    let l = length_map (cell_of (all_tell v.cells)) v.cells in
+    let l = length-map v.cells (cell_of (all_tell v.cells)) in
     omega (arith, l, g, kept.good.counts.cells)
 
 module _ {tells : Bool} {files : ℕ → ℕ → List ℕ} (v u : CoreView) (is : v ≡ u) (kept : IsKept tells files v) (r : ℕ) (within : r < length v.cells) (x : CellView) (at : x ≡ get_or v.cells r x) (want : Want) where
@@ -225,7 +225,7 @@ module _ {tells : Bool} {files : ℕ → ℕ → List ℕ} (v u : CoreView) (is 
 
   same_tag : look_at want x.metadata.region ≡ glance.Copied → x.metadata.region.tag ≡ tag_of want.key
   same_tag e = elim (cases_Bool (x.metadata.region.tag == tag_of want.key)) [
-    | inl t ↦ is_same x.metadata.region.tag (tag_of want.key) t
+    | inl t ↦ eqb-true x.metadata.region.tag (tag_of want.key) t
     | inr f ↦ absurd (moved_copied (rw f at e))
   ]
     where

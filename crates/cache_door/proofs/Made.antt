@@ -3,7 +3,7 @@ use Rattle.std.proofs.Common.{arith, ◌≡◌, ◌<◌, ◌+◌, ℕ, zero, suc
 use Rattle.std.specs.Prelude.{◌&&◌, IsTrue, if◌then◌else◌}
 use Rattle.std.specs.List.{All, list_all}
 use Rattle.std.proofs.lemmas.Bool.{false≢true}
-use Rattle.std.proofs.lemmas.List.{length-replicate}
+use Rattle.std.proofs.lemmas.List.{length-replicate, length-map}
 use Rattle.region_ranges.specs.declared.keys.Config.{Config}
 use Rattle.region_ranges.specs.Keys.{IsConfig}
 use Rattle.sparse_tracker.specs.declared.gaps.OpenGap.{OpenGap}
@@ -17,10 +17,10 @@ use Rattle.region_cell.specs.Cells.{CellView, new_cell}
 use Rattle.cache_door.specs.declared.hold.Hold.{Hold}
 use Rattle.cache_door.specs.declared.work.Work.{Work}
 use Rattle.cache_door.specs.Machine as machine
-use Rattle.cache_door.specs.Machine.{State, Cell, cell_at, new_state}
+use Rattle.cache_door.specs.Machine.{State, Cell, new_state}
 use Rattle.cache_door.specs.Good.{GoodCell, weigh_hold, hold_ticket, hold_gap}
 use Rattle.cache_door.specs.Cores.{CoreView, core_view, view_at, all_tell, all_steady, all_faults, cell_of, state_of, no_frame, IsKept}
-use Rattle.cache_door.proofs.Frames.{cell_is, length_map}
+use Rattle.cache_door.proofs.Frames.{cell_is}
 use Rattle.cache_door.proofs.Kept.{good_cell}
 
 none_held : (n a : ℕ) → get_or {A = Option Hold} (replicate n None) a None ≡ None
@@ -143,7 +143,7 @@ module _ {X : Type 0} (view : X → FrameView) where
       good = record {
         config = config;
         counts = record {
-          cells = length_map (cell_of (all_tell first.cells)) first.cells ∙ length_map (cell_over c.range) fs ∙ count;
+          cells = length-map first.cells (cell_of (all_tell first.cells)) ∙ length-map fs (cell_over c.range) ∙ count;
           tags = length-replicate {A = Option ℕ} c.regions None;
           lists = length-replicate {A = List ℕ} c.max_freq [];
           gone = length-replicate {A = Bool} 4096 false;
@@ -166,7 +166,7 @@ module _ {X : Type 0} (view : X → FrameView) where
     }
       where
         at : (r : ℕ) → r < length (state_of first).cells → r < length first.cells
-        at r h = let l = length_map (cell_of (all_tell first.cells)) first.cells in omega (arith, l, h)
+        at r h = let l = length-map first.cells (cell_of (all_tell first.cells)) in omega (arith, l, h)
 
     pub made_kept : {ts : Bool} {files : ℕ → ℕ → List ℕ} (p : PolicyView) (made : List CellView) → p ≡ new_policy c.regions c.max_freq c.min_delta → policy.IsGood p → made ≡ map (cell_over c.range) fs → All (λ x. cells.IsGood ts files x) made
         → IsKept ts files (core_view c p made (replicate actors None) (replicate 4096 false) w)

@@ -2,7 +2,7 @@
 use Rattle.std.proofs.Common.{arith, ◌≡◌, ◌≢◌, ◌<◌, ℕ, suc, Bool, true, false, List, [], ◌∷◌, sym, subst, ◌∙◌, ap, inl, inr, refl, length, drop, get_or, Option, Some, None}
 use Rattle.std.specs.Prelude.{◌==◌, ◌||◌, if◌then◌else◌}
 use Rattle.std.specs.List.{list_any}
-use Rattle.std.proofs.lemmas.Bool.{cases_eq, false≢true}
+use Rattle.std.proofs.lemmas.Bool.{cases_eq, false≢true, eq-eqb, ne_eqb}
 use Rattle.std.proofs.lemmas.List.{get_or-set_same, get_or-set_other, length-set}
 use Rattle.region_ranges.specs.Keys.{free_tag}
 use Rattle.sparse_tracker.specs.Weights.{total, tickets_weigh, gaps_weigh}
@@ -15,19 +15,19 @@ use Rattle.cache_door.specs.declared.hold.Hold.{Hold}
 use Rattle.cache_door.specs.Machine.{State, Cell, cell_at, hold_at, with_cell, no_cell, is_on, is_held}
 use Rattle.cache_door.specs.Good.{Good, GoodCell, HoldFits, TicketsOwned, GapsOwned, weigh_hold, hold_ticket, hold_gap}
 use Rattle.cache_door.proofs.Weighs.{total_off}
-use Rattle.freq_lists.proofs.Counts.{length_push as length-push, same_is, other_is}
+use Rattle.freq_lists.proofs.Counts.{length_push as length-push}
 
 -- ---- nobody holds a free region
 
 pub head_in : (r : ℕ) (xs : List ℕ) → head xs ≡ Some r → is_in r xs ≡ true
 head_in r [] e = absurd (cc)
-head_in r (x ∷ xs) e = let i : x ≡ r = (cc) in rw (same_is x r i) refl
+head_in r (x ∷ xs) e = let i : x ≡ r = (cc) in rw (eq-eqb x r i) refl
 
 -- no hold is on r
 any_off : (r : ℕ) (os : List (Option Hold)) → ((a : ℕ) (h : Hold) → get_or os a None ≡ Some h → ¬ (h.region ≡ r)) → list_any (is_on r) os ≡ false
 any_off r [] n = refl
 any_off r (None ∷ os) n = any_off r os (λ a h e. n (suc a) h e)
-any_off r (Some k ∷ os) n = rw (other_is k.region r (n 0 k refl)) (any_off r os (λ a h e. n (suc a) h e))
+any_off r (Some k ∷ os) n = rw (ne_eqb k.region r (n 0 k refl)) (any_off r os (λ a h e. n (suc a) h e))
 
 pub free_unheld : {tells : Bool} {files : ℕ → ℕ → List ℕ} (s : State) (r : ℕ) → Good tells files s → is_in r s.policy.free ≡ true → is_held s r ≡ false
 free_unheld s r good e = any_off r s.holds (λ a h i j. let P : ℕ → Type 0 = λ k. is_in k s.policy.free ≡ false in false≢true (sym (subst P j (good.holds a h i).busy) ∙ e))
@@ -96,11 +96,11 @@ module _ {tells : Bool} {files : ℕ → ℕ → List ℕ} (s : State) (r tag no
   all_mapped : (j t : ℕ) → tag_at next.policy j ≡ Some t → ((cell_at next j).region.tag ≡ t) × (t ≢ free_tag)
   all_mapped j t e = elim (cases_eq r j) [
     | inl i ↦
-        let h : tag ≡ t = (let g = rw (same_is j r (sym i)) at (new.tags j) in cc) in
+        let h : tag ≡ t = (let g = rw (eq-eqb j r (sym i)) at (new.tags j) in cc) in
         let P : ℕ → Type 0 = λ k. (cell_at next k).region.tag ≡ t in
         (subst P i (ap (λ (x : Cell). x.region.tag) here ∙ new_tag ∙ h), λ f. new.key (h ∙ f))
     | inr n ↦
-        let g : tag_at s.policy j ≡ Some t = sym (rw (other_is j r (λ i. n (sym i))) at (new.tags j)) ∙ e in
+        let g : tag_at s.policy j ≡ Some t = sym (rw (ne_eqb j r (λ i. n (sym i))) at (new.tags j)) ∙ e in
         let m = good.mapped j t g in
         (ap (λ (x : Cell). x.region.tag) (there j n) ∙ m.0, m.1)
   ]

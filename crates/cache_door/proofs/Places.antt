@@ -2,16 +2,11 @@
 use Rattle.std.proofs.Common.{arith, ◌≡◌, ◌<◌, ◌≤◌, ℕ, zero, suc, Bool, true, false, List, [], ◌∷◌, sym, subst, ◌∙◌, ap, inl, inr, refl, length, get_or, Option, Some, None}
 use Rattle.std.specs.Prelude.{◌==◌, not, ◌⊎◌}
 use Rattle.std.specs.List.{filter}
-use Rattle.std.proofs.lemmas.Bool.{cases_lt, cases_Bool, false≢true}
-use Rattle.std.proofs.lemmas.Bool.Decides.{nat_tests}
+use Rattle.std.proofs.lemmas.Bool.{cases_lt, cases_Bool, false≢true, eq-eqb, ne_eqb}
 use Rattle.std.proofs.lemmas.List.Folds.{list_any_at}
 use Rattle.freq_lists.specs.Lists.{is_in, head}
 use Rattle.cache_door.specs.declared.hold.Hold.{Hold}
 use Rattle.cache_door.specs.Machine.{State, hold_at, is_on, is_held, unheld}
-use Rattle.freq_lists.proofs.Counts.{same_is, other_is}
-
-pub is_same : (a b : ℕ) → (a == b) ≡ true → a ≡ b
-is_same a b e = grind (arith, nat_tests)
 
 -- where p fails at r, r is not among what p keeps
 pub not_kept : (p : ℕ → Bool) (r : ℕ) (xs : List ℕ) → p r ≡ false → is_in r (filter p xs) ≡ false
@@ -19,7 +14,7 @@ not_kept p r [] e = refl
 not_kept p r (x ∷ xs) e = elim (cases_Bool (p x)) [
   | inl t ↦
       let n : ¬ (x ≡ r) = λ i. let P : ℕ → Type 0 = λ y. p y ≡ true in false≢true (sym e ∙ subst P i t) in
-      rw (t, other_is x r n) (not_kept p r xs e)
+      rw (t, ne_eqb x r n) (not_kept p r xs e)
   | inr f ↦ rw f (not_kept p r xs e)
 ]
 
@@ -41,7 +36,7 @@ head_passes p r (x ∷ xs) e = elim (cases_Bool (p x)) [
   | inl t ↦
       let i : x ≡ r = (let h = rw t at e in cc) in
       let P : ℕ → Type 0 = λ y. p y ≡ true in
-      (subst P i t, rw (same_is x r i) refl)
+      (subst P i t, rw (eq-eqb x r i) refl)
   | inr f ↦
       let k = head_passes p r xs (rw f at e) in
       (k.0, elim (cases_Bool (x == r)) [ inl t ↦ rw t refl | inr g ↦ rw g k.1 ])
@@ -51,7 +46,7 @@ head_passes p r (x ∷ xs) e = elim (cases_Bool (p x)) [
 
 pub is_on_some : (r : ℕ) (o : Option Hold) (h : Hold) → o ≡ Some h → h.region ≡ r → is_on r o ≡ true
 is_on_some r None h e i = absurd (cc)
-is_on_some r (Some k) h e i = let s : k.region ≡ h.region = ap region_of e in same_is k.region r (s ∙ i)
+is_on_some r (Some k) h e i = let s : k.region ≡ h.region = ap region_of e in eq-eqb k.region r (s ∙ i)
   where
     region_of : Option Hold → ℕ
     region_of None = 0

@@ -1,19 +1,19 @@
 -- A change of the policy alone keeps the good state: where no other key comes in, no region leaves but one that had a key, and no
 -- held region becomes free. So it is with an access, a decay, a clear, and with what makes room for an entry.
-use Rattle.std.proofs.Common.{append-nil, append_assoc, arith, ◌≡◌, ◌+◌, ℕ, zero, suc, Bool, true, false, List, [], ◌∷◌, ◌++◌, sym, subst, ◌∙◌, ap, inl, inr, refl, length, Option, Some, None}
+use Rattle.std.proofs.Common.{append-nil, append_assoc, arith, ◌≡◌, ◌+◌, ℕ, suc, Bool, true, false, List, [], ◌∷◌, ◌++◌, sym, subst, ◌∙◌, ap, inl, inr, refl, length, Option, Some, None}
 use Rattle.std.specs.Prelude.{◌==◌, ◌||◌, ◌&&◌, nat_lt, not, ◌⊎◌, slice_get, if◌then◌else◌}
-use Rattle.std.proofs.lemmas.Bool.{cases_eq, cases_Bool, false≢true, or_cases}
+use Rattle.std.proofs.lemmas.Bool.{cases_eq, cases_Bool, false≢true, or_cases, ne_eqb}
 use Rattle.std.proofs.lemmas.List.{length-set}
 use Rattle.std.proofs.lemmas.List.Folds.{list_any-append}
-use Rattle.freq_lists.specs.Lists.{is_in, unlink, push_back, list_of}
+use Rattle.freq_lists.specs.Lists.{is_in, unlink, list_of}
 use Rattle.cache_policy.specs.Policy.{PolicyView, tag_at, unmap, settle, settle_all, clear, leave, leave_all, regions_from, is_of}
-use Rattle.cache_policy.specs.Ageing.{touch, touch_at, waited, decay, lower, lower_rest}
+use Rattle.cache_policy.specs.Ageing.{touch, touch_at, waited, decay}
 use Rattle.cache_policy.specs.Kept as policy
 use Rattle.cache_door.specs.declared.hold.Hold.{Hold}
 use Rattle.cache_door.specs.Machine.{State, hold_at, is_held, unheld, settled}
 use Rattle.cache_door.specs.Good.{Good}
 use Rattle.cache_door.proofs.Places.{kept_in, not_unheld, off_region}
-use Rattle.freq_lists.proofs.Counts.{length_unlink as length-unlink, length_push as length-push, other_is}
+use Rattle.freq_lists.proofs.Counts.{length_unlink as length-unlink, length_push as length-push}
 use Rattle.cache_policy.proofs.Places.{length_lower as length-lower}
 
 pub record PolicyChanges (s : State) (p : PolicyView) : Type 0 where
@@ -39,10 +39,6 @@ policy_keeps s p good now = record {
 }
 
 -- ---- an access, a decay and a clear
-
-length-lower_rest : (goes : ℕ → Bool) (ls : List (List ℕ)) → length (lower_rest goes ls) ≡ length ls
-length-lower_rest goes [] = refl
-length-lower_rest goes (l ∷ ls) = let h = length-lower_rest goes ls in omega (arith, h)
 
 -- what an access leaves
 record Touched (p q : PolicyView) : Type 0 where
@@ -141,7 +137,7 @@ region_has_key m i j (None ∷ ts) e = let h = region_has_key m (i + 1) j ts e i
 region_has_key m i j (Some tag ∷ ts) e = elim (cases_Bool (is_of m (Some tag))) [
   | inl t ↦ elim (cases_eq i j) [
     | inl h ↦ (0, omega (arith, h), (tag, refl))
-    | inr n ↦ let h = region_has_key m (i + 1) j ts (rw (t, other_is i j n) at e) in (suc h.0, omega (arith, h.1), h.2)
+    | inr n ↦ let h = region_has_key m (i + 1) j ts (rw (t, ne_eqb i j n) at e) in (suc h.0, omega (arith, h.1), h.2)
   ]
   | inr f ↦ let h = region_has_key m (i + 1) j ts (rw f at e) in (suc h.0, omega (arith, h.1), h.2)
 ]
@@ -191,5 +187,5 @@ unmap_changes s r good free kept tags = record {
     | inr f ↦ sym (rw f at (tags j)) ∙ e
   ];
   leaving = λ j e. inl e;
-  busy = λ a h e. list_any-append (λ m. m == h.region) s.policy.free (r ∷ []) ∙ rw ((good.holds a h e).busy, other_is r h.region (λ i. off_region s a r h e free (sym i))) refl;
+  busy = λ a h e. list_any-append (λ m. m == h.region) s.policy.free (r ∷ []) ∙ rw ((good.holds a h e).busy, ne_eqb r h.region (λ i. off_region s a r h e free (sym i))) refl;
 }

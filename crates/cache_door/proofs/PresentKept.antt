@@ -15,15 +15,13 @@ use Rattle.region_cell.specs.Cells.{len_of, range_round}
 use Rattle.cache_door.specs.declared.answers.Want.{Want}
 use Rattle.cache_door.specs.declared.hold.Hold.{Hold}
 use Rattle.cache_door.specs.Machine as machine
-use Rattle.cache_door.specs.Machine.{State, Cell, Event, Answer, Enter, TakeBytes, Store, Fail, Leave, Look, Decay, Clear, Live, Unmount, Step, outcome, no_cell, cell_at, hold_at, is_gone, enter, enter_at, place, make_room}
+use Rattle.cache_door.specs.Machine.{State, Cell, Event, Answer, Enter, TakeBytes, Store, Fail, Leave, Look, Decay, Clear, Live, Unmount, outcome, no_cell, cell_at, hold_at, is_gone, enter, enter_at, place, make_room}
 use Rattle.cache_door.specs.Laws.{PresentKept}
 use Rattle.cache_door.proofs.Places.{past}
+use Rattle.cache_door.proofs.OneOwner.{some_none}
 
 abbrev HasPresent : ℕ → Cell → Type 0
 HasPresent i c = slice_get c.region.tracker.byte_states i ≡ Some present
-
-some_none : {X : Type 0} {x : X} → None ≡ Some x → ⊥
-some_none e = cc
 
 -- a cell is replaced by one that has what it has
 set_present : (cs : List Cell) (q r i : ℕ) (c : Cell) → (HasPresent i (get_or cs q no_cell) → HasPresent i c) → HasPresent i (get_or cs r no_cell) → HasPresent i (get_or (set cs q c) r no_cell)

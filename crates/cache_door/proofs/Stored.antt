@@ -14,7 +14,7 @@ use Rattle.cache_outside.specs.Frames.{put_at, SameOutside}
 use Rattle.cache_door.proofs.Weighs.{total-set, total-at}
 use Rattle.blob_parts.specs.Pieces.{PieceView}
 use Rattle.region_cell.specs.Cells as cells
-use Rattle.region_cell.specs.Cells.{CellView, FrameMetadata, FrameStays, Region, with_region, with_frame, new_cell}
+use Rattle.region_cell.specs.Cells.{CellView, FrameStays, Region, with_region, with_frame, new_cell}
 use Rattle.cache_door.specs.declared.hold.Hold.{Hold}
 use Rattle.cache_door.specs.declared.work.Work.{Work}
 use Rattle.cache_door.specs.Machine as machine

@@ -1,20 +1,20 @@
 -- Walks over the leaving regions and over the candidates.
 use Rattle.std.proofs.Common.{arith, ◌≡◌, ◌<◌, ◌≤◌, ◌+◌, ℕ, zero, suc, true, false, List, [], ◌∷◌, ◌++◌, sym, ◌∙◌, ap, inl, inr, refl, length, drop, get_or, Option, Some, None, drop-cons, add-one}
 use Rattle.std.specs.Prelude.{◌==◌, IsSome}
-use Rattle.std.proofs.lemmas.Bool.{cases_Bool, cases_lt}
+use Rattle.std.proofs.lemmas.Bool.{cases_Bool, cases_lt, eq-eqb, ne_eqb, eqb-true}
 use Rattle.std.proofs.lemmas.Bool.Decides.{nat_tests}
-use Rattle.freq_lists.specs.Lists.{without, head, times_in, times}
+use Rattle.freq_lists.specs.Lists.{without, head, times_in}
 use Rattle.cache_policy.specs.Policy.{PolicyView, tag_at, settle, settle_all}
-use Rattle.cache_policy.specs.Ageing.{candidates, candidates_in, next_after}
+use Rattle.cache_policy.specs.Ageing.{candidates, next_after}
 use Rattle.cache_policy.specs.Kept.{IsGood, one_if_some}
 use Rattle.cache_door.specs.declared.hold.Hold.{Hold}
 use Rattle.cache_door.specs.Machine.{is_held_by, unheld_by, settled_by, evicted, evicted_by, room_by}
 use Rattle.cache_door.specs.Choices.{left_from}
-use Rattle.cache_door.proofs.Places.{is_same}
 use Rattle.cache_door.proofs.Policies.{settled_all}
-use Rattle.freq_lists.proofs.Counts.{times_append as append_times, same_is, other_is}
+use Rattle.freq_lists.proofs.Beside.{without_none}
 use Rattle.cache_policy.proofs.Places.{candidate_times}
 use Rattle.cache_policy.proofs.Tags.{one_is as is_one}
+use Rattle.cache_policy.proofs.Candidates.{next_times}
 
 -- ---- the unheld regions from place i on
 
@@ -35,23 +35,16 @@ drop_end (suc i) (x ∷ xs) h = drop_end i xs (omega (arith, h))
 
 -- ---- settling while walking
 
-absent : (r : ℕ) (xs : List ℕ) → times_in r xs ≡ 0 → without r xs ≡ xs
-absent r [] e = refl
-absent r (x ∷ xs) e = elim (cases_Bool (x == r)) [
-  | inl t ↦ absurd (let h = rw t at e in omega (arith, h))
-  | inr f ↦ rw f (ap (λ (l : List ℕ). x ∷ l) (absent r xs (let h = rw f at e in omega (arith, h))))
-]
-
 pub at_times : (r i : ℕ) (xs : List ℕ) → i < length xs → get_or xs i 0 ≡ r → 0 < times_in r xs
 at_times r i [] h e = absurd (omega (arith, h))
-at_times r zero (x ∷ xs) h e = rw (same_is x r e) (omega arith)
+at_times r zero (x ∷ xs) h e = rw (eq-eqb x r e) (omega arith)
 at_times r (suc i) (x ∷ xs) h e = let k = at_times r i xs (omega (arith, h)) e in omega (arith, k)
 
 pub taken_out : (r i : ℕ) (xs : List ℕ) → i < length xs → get_or xs i 0 ≡ r → times_in r xs ≤ 1 → (drop i (without r xs) ≡ drop (suc i) xs) × (length (without r xs) + 1 ≡ length xs)
 taken_out r i [] h e t = absurd (omega (arith, h))
 taken_out r zero (x ∷ xs) h e t =
-    let s = same_is x r e in
-    let k = absent r xs (let u = rw s at t in omega (arith, u)) in
+    let s = eq-eqb x r e in
+    let k = without_none r xs (let u = rw s at t in omega (arith, u)) in
     (rw (s, k) refl, rw (s, k) (omega arith))
 taken_out r (suc i) (x ∷ xs) h e t = elim (cases_Bool (x == r)) [
   | inl s ↦ absurd (let u = rw s at t in omega (arith, u, at_times r i xs (omega (arith, h)) e))
@@ -83,29 +76,22 @@ mapped_candidate p kept r h = omega (arith, candidate_times r p.lists, kept.mapp
 pub left_some : (r : ℕ) (xs : List ℕ) → 0 < times_in r xs → left_from (Some r) xs ≡ r ∷ drop 1 (left_from (Some r) xs)
 left_some r [] h = absurd (omega (arith, h))
 left_some r (x ∷ xs) h = elim (cases_Bool (x == r)) [
-  | inl t ↦ rw t (ap (λ (y : ℕ). y ∷ xs) (is_same x r t))
+  | inl t ↦ rw t (ap (λ (y : ℕ). y ∷ xs) (eqb-true x r t))
   | inr f ↦ rw f (left_some r xs (let k = rw f at h in omega (arith, k)))
 ]
 
 pub left_first : (xs : List ℕ) → left_from (head xs) xs ≡ xs
 left_first [] = refl
-left_first (x ∷ xs) = rw (same_is x x refl) refl
-
-next_times : (r n : ℕ) (xs : List ℕ) → next_after r xs ≡ Some n → 0 < times_in n xs
-next_times r n [] e = absurd (cc)
-next_times r n (x ∷ xs) e = elim (cases_Bool (x == r)) [
-  | inl t ↦ let h = head_times n xs (rw t at e) in omega (arith, h)
-  | inr f ↦ let h = next_times r n xs (rw f at e) in omega (arith, h)
-]
+left_first (x ∷ xs) = rw (eq-eqb x x refl) refl
   where
     head_times : (n : ℕ) (l : List ℕ) → head l ≡ Some n → 0 < times_in n l
     head_times n [] e = absurd (cc)
-    head_times n (y ∷ ys) e = let i : y ≡ n = (cc) in rw (same_is y n i) (omega arith)
+    head_times n (y ∷ ys) e = let i : y ≡ n = (cc) in rw (eq-eqb y n i) (omega arith)
 
 -- what is left from an entry of the rest is left from it in the whole
 left_behind : (x : ℕ) (o : Option ℕ) (xs : List ℕ) → ((n : ℕ) → o ≡ Some n → ¬ (x ≡ n)) → left_from o (x ∷ xs) ≡ left_from o xs
 left_behind x None xs h = refl
-left_behind x (Some n) xs h = rw (other_is x n (h n refl)) refl
+left_behind x (Some n) xs h = rw (ne_eqb x n (h n refl)) refl
 
 pub left_next : (r : ℕ) (xs : List ℕ) → ((n : ℕ) → times_in n xs ≤ 1) → left_from (next_after r xs) xs ≡ drop 1 (left_from (Some r) xs)
 left_next r [] h = refl
@@ -116,10 +102,10 @@ left_next r (x ∷ xs) h = elim (cases_Bool (x == r)) [
   where
     first : (x : ℕ) (xs : List ℕ) → ((n : ℕ) → times_in n (x ∷ xs) ≤ 1) → (n : ℕ) → head xs ≡ Some n → ¬ (x ≡ n)
     first x [] h n e i = absurd (cc)
-    first x (y ∷ ys) h n e i = let j : y ≡ n = (cc) in let k = rw (same_is x n i, same_is y n j) at (h n) in omega (arith, k)
+    first x (y ∷ ys) h n e i = let j : y ≡ n = (cc) in let k = rw (eq-eqb x n i, eq-eqb y n j) at (h n) in omega (arith, k)
 
     later : (x r : ℕ) (xs : List ℕ) → ((n : ℕ) → times_in n (x ∷ xs) ≤ 1) → (n : ℕ) → next_after r xs ≡ Some n → ¬ (x ≡ n)
-    later x r xs h n e i = let k = rw (same_is x n i) at (h n) in omega (arith, k, next_times r n xs e)
+    later x r xs h n e i = let k = rw (eq-eqb x n i) at (h n) in omega (arith, k, next_times r n xs e)
 
 pub walk_step : (p : PolicyView) (r : ℕ) → IsGood p → IsSome (tag_at p r) → left_from (Some r) (candidates p) ≡ r ∷ left_from (next_after r (candidates p)) (candidates p)
 walk_step p r kept h = left_some r (candidates p) (mapped_candidate p kept r h) ∙ ap (λ (l : List ℕ). r ∷ l) (sym (left_next r (candidates p) (once_candidate p kept)))

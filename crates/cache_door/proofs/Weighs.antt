@@ -1,14 +1,13 @@
 -- What lists of holds weigh, and what follows where the holds on a region weigh what its tickets and gaps do.
-use Rattle.std.proofs.Common.{arith, ◌≡◌, ◌≢◌, ◌<◌, ◌≤◌, ◌+◌, ℕ, zero, suc, Bool, true, false, List, [], ◌∷◌, ◌++◌, sym, refl, length, set, get_or, Option, Some, None}
-use Rattle.std.specs.Prelude.{◌==◌, ◌||◌}
+use Rattle.std.proofs.Common.{arith, ◌≡◌, ◌≢◌, ◌<◌, ◌≤◌, ◌+◌, ℕ, zero, suc, true, false, List, [], ◌∷◌, refl, length, set, get_or, Option, Some, None}
+use Rattle.std.specs.Prelude.{◌==◌}
 use Rattle.std.specs.List.{list_any}
-use Rattle.std.proofs.lemmas.Bool.{false≢true}
+use Rattle.std.proofs.lemmas.Bool.{or_parts}
 use Rattle.std.proofs.lemmas.Bool.Decides.{nat_tests}
 use Rattle.sparse_tracker.specs.Weights.{total}
 use Rattle.cache_door.specs.declared.hold.Hold.{Hold}
 use Rattle.cache_door.specs.Machine.{is_on}
 use Rattle.cache_door.specs.Good.{weigh_hold}
-use Rattle.sparse_tracker.proofs.Weighs.{total-push}
 
 -- an entry of a list weighs at most what the list does
 pub total-at : {X : Type 0} (f : X → ℕ) (xs : List X) (i : ℕ) (d : X) → i < length xs → f (get_or xs i d) ≤ total f xs
@@ -45,12 +44,8 @@ weigh_off : (r : ℕ) (f : Hold → ℕ) (o : Option Hold) → is_on r o ≡ fal
 weigh_off r f None e = refl
 weigh_off r f (Some h) e = rw e refl
 
-pub or_false : (a b : Bool) → (a || b) ≡ false → (a ≡ false) × (b ≡ false)
-or_false true b e = absurd (false≢true (sym e))
-or_false false b e = (refl, e)
-
 pub total_off : (r : ℕ) (f : Hold → ℕ) (os : List (Option Hold)) → list_any (is_on r) os ≡ false → total (weigh_hold r f) os ≡ 0
 total_off r f [] e = refl
 total_off r f (o ∷ os) e =
-    let n = or_false (is_on r o) (list_any (is_on r) os) e in
+    let n = or_parts (is_on r o) (list_any (is_on r) os) e in
     omega (arith, weigh_off r f o n.0, total_off r f os n.1)

@@ -2,9 +2,8 @@
 use Rattle.std.proofs.Common.{arith, ◌≡◌, ◌<◌, ◌≤◌, ◌+◌, ℕ, zero, suc, true, false, List, [], ◌∷◌, ◌++◌, sym, ◌∙◌, inl, inr, refl, drop, Some, None}
 use Rattle.std.specs.Prelude.{◌==◌, slice_get}
 use Rattle.std.specs.List.{position_from}
-use Rattle.std.proofs.lemmas.Bool.{cases_eq, cases_Bool}
+use Rattle.std.proofs.lemmas.Bool.{cases_eq, cases_Bool, eq-eqb, ne_eqb}
 use Rattle.freq_lists.specs.Lists.{times_in, head, list_at, next, behind, is_in}
-use Rattle.freq_lists.proofs.Counts.{same_is, other_is}
 use Rattle.cache_policy.specs.Ageing.{candidates_in, next_after}
 
 pub first_some : (k r : ℕ) (ls : List (List ℕ)) → head (list_at k ls) ≡ Some r → head (candidates_in (drop k ls)) ≡ Some r
@@ -79,20 +78,20 @@ after_none r (l ∷ ls) i g (suc k) h s n = elim (cases_Bool (is_in r l)) [
 
 times_at : (i n : ℕ) (l : List ℕ) → slice_get l i ≡ Some n → 0 < times_in n l
 times_at i n [] h = absurd (cc)
-times_at zero n (x ∷ l) h = let s : x ≡ n = cc in rw (same_is x n s) (omega arith)
+times_at zero n (x ∷ l) h = let s : x ≡ n = cc in rw (eq-eqb x n s) (omega arith)
 times_at (suc i) n (x ∷ l) h = omega (arith, times_at i n l h)
 
-head_get : (l : List ℕ) → head l ≡ slice_get l 0
+pub head_get : (l : List ℕ) → head l ≡ slice_get l 0
 head_get [] = refl
 head_get (x ∷ l) = refl
 
 -- the place behind
 pub next_place : (r i : ℕ) (l : List ℕ) → times_in r l ≤ 1 → slice_get l i ≡ Some r → next_after r l ≡ slice_get l (suc i)
 next_place r i [] o h = absurd (cc)
-next_place r zero (x ∷ l) o h = let s : x ≡ r = cc in rw (same_is x r s) (head_get l)
+next_place r zero (x ∷ l) o h = let s : x ≡ r = cc in rw (eq-eqb x r s) (head_get l)
 next_place r (suc i) (x ∷ l) o h = elim (cases_eq x r) [
-  | inl s ↦ absurd (let u = rw (same_is x r s) at o in omega (arith, u, times_at i r l h))
-  | inr d ↦ let u = rw (other_is x r d) at o in rw (other_is x r d) (next_place r i l (omega (arith, u)) h)
+  | inl s ↦ absurd (let u = rw (eq-eqb x r s) at o in omega (arith, u, times_at i r l h))
+  | inr d ↦ let u = rw (ne_eqb x r d) at o in rw (ne_eqb x r d) (next_place r i l (omega (arith, u)) h)
 ]
 
 pub head_times : (n : ℕ) (l : List ℕ) → head l ≡ Some n → 0 < times_in n l

@@ -1,9 +1,8 @@
 -- A clear, region by region.
 use Rattle.std.proofs.Common.{arith, ◌≡◌, ◌<◌, ◌≤◌, ◌+◌, ℕ, zero, suc, Bool, true, false, List, [], ◌∷◌, ◌++◌, sym, ◌∙◌, inl, inr, refl, length, drop, Option, Some, None, add-one, append_assoc, append-nil}
 use Rattle.std.specs.Prelude.{slice_set, IsSome, if◌then◌else◌}
-use Rattle.std.proofs.lemmas.Bool.{cases_eq, cases_Bool}
+use Rattle.std.proofs.lemmas.Bool.{cases_eq, cases_Bool, eq-eqb, ne_eqb}
 use Rattle.freq_lists.specs.Lists.{is_in}
-use Rattle.freq_lists.proofs.Counts.{same_is, other_is}
 use Rattle.cache_policy.specs.Policy.{PolicyView, tag_at, is_of, regions_from, leave, leave_all}
 use Rattle.cache_policy.proofs.Tags.{at, at_gone, at_other}
 
@@ -39,27 +38,27 @@ tag_after j [] p = refl
 tag_after j (r ∷ rs) p = elim (cases_eq r j) [
   | inl e ↦
       let gone : at (slice_set p.tags r None) j ≡ None = rw (← e) (at_gone p.tags r) in
-      tag_after j rs (leave r p) ∙ rw (same_is r j e, gone) (elim (cases_Bool (is_in j rs)) [ inl t ↦ rw t refl | inr t ↦ rw t refl ])
+      tag_after j rs (leave r p) ∙ rw (eq-eqb r j e, gone) (elim (cases_Bool (is_in j rs)) [ inl t ↦ rw t refl | inr t ↦ rw t refl ])
   | inr d ↦
       let same : at (slice_set p.tags r None) j ≡ at p.tags j = at_other p.tags r j None (λ e. d (sym e)) in
-      tag_after j rs (leave r p) ∙ rw (other_is r j d, same) refl
+      tag_after j rs (leave r p) ∙ rw (ne_eqb r j d, same) refl
 ]
 
 none_below : (test : Option ℕ → Bool) (j i : ℕ) (ts : List (Option ℕ)) → j < i → is_in j (regions_from i test ts) ≡ false
 none_below test j i [] h = refl
 none_below test j i (t ∷ ts) h = elim (cases_Bool (test t)) [
-  | inl u ↦ rw (u, other_is i j (λ e. absurd (omega (arith, e, h)))) (none_below test j (i + 1) ts (omega arith))
+  | inl u ↦ rw (u, ne_eqb i j (λ e. absurd (omega (arith, e, h)))) (none_below test j (i + 1) ts (omega arith))
   | inr u ↦ rw u (none_below test j (i + 1) ts (omega arith))
 ]
 
 pub is_region_from : (m : ℕ) (ts : List (Option ℕ)) (i k j : ℕ) → j ≡ i + k → is_in j (regions_from i (is_of m) ts) ≡ is_of m (at ts k)
 is_region_from m [] i k j s = refl
 is_region_from m (t ∷ ts) i zero j s = elim (cases_Bool (is_of m t)) [
-  | inl u ↦ rw (u, same_is i j (omega (arith, s))) refl
+  | inl u ↦ rw (u, eq-eqb i j (omega (arith, s))) refl
   | inr u ↦ rw u (none_below (is_of m) j (i + 1) ts (omega (arith, s)))
 ]
 is_region_from m (t ∷ ts) i (suc k) j s = elim (cases_Bool (is_of m t)) [
-  | inl u ↦ rw (u, other_is i j (λ e. absurd (omega (arith, e, s)))) (is_region_from m ts (i + 1) k j (omega (arith, s)))
+  | inl u ↦ rw (u, ne_eqb i j (λ e. absurd (omega (arith, e, s)))) (is_region_from m ts (i + 1) k j (omega (arith, s)))
   | inr u ↦ rw u (is_region_from m ts (i + 1) k j (omega (arith, s)))
 ]
 

@@ -3,9 +3,9 @@ use Rattle.std.proofs.Common.{arith, ◌≡◌, ◌<◌, ◌≤◌, ℕ, zero, s
 use Rattle.std.specs.Prelude.{slice_set, IsSome, ◌⊎◌}
 use Rattle.std.specs.List.{position_from, range_with_len}
 use Rattle.std.proofs.lemmas.List.{length-set, length-replicate}
-use Rattle.std.proofs.lemmas.Bool.{cases_eq, cases_lt}
+use Rattle.std.proofs.lemmas.Bool.{cases_eq, cases_lt, eq-eqb, ne_eqb}
 use Rattle.freq_lists.specs.Lists.{without, unlink, push_back, times, times_in, head}
-use Rattle.freq_lists.proofs.Counts.{same_is, other_is, times_append, times_push, times_empty, length_push, length_unlink, times_unlink, unlink_other_times}
+use Rattle.freq_lists.proofs.Counts.{times_append, times_push, times_empty, length_push, length_unlink, times_unlink, unlink_other_times}
 use Rattle.freq_lists.proofs.Room.{room}
 use Rattle.cache_policy.specs.Policy.{PolicyView, tag_at, is_tag, new_policy}
 use Rattle.cache_policy.specs.Ageing.{lower}
@@ -49,14 +49,14 @@ module _ (p : PolicyView) (good : IsGood p) where
     where
       once : (j : ℕ) → times_in j (r ∷ l) ≤ 1
       once j = elim (cases_eq r j) [
-        | inl e ↦ let n = rw e at none in rw (same_is r j e) (omega (arith, n))
-        | inr d ↦ rw (other_is r j d) (omega (arith, within j, at_most_one j))
+        | inl e ↦ let n = rw e at none in rw (eq-eqb r j e) (omega (arith, n))
+        | inr d ↦ rw (ne_eqb r j d) (omega (arith, within j, at_most_one j))
       ]
 
       region : (j : ℕ) → 0 < times_in j (r ∷ l) → j < length p.tags
       region j g = elim (cases_eq r j) [
         | inl e ↦ omega (arith, e, h)
-        | inr d ↦ let t = rw (other_is r j d) at g in is_region j (omega (arith, t, within j))
+        | inr d ↦ let t = rw (ne_eqb r j d) at g in is_region j (omega (arith, t, within j))
       ]
 
   pub free_len : length p.free ≤ length p.tags
@@ -141,7 +141,7 @@ module _ (p : PolicyView) (good : IsGood p) where
 
   module _ (r tag : ℕ) (front : head p.free ≡ Some r) where
     free_region : 0 < times_in r p.free
-    free_region = let e = rw (same_is r r refl) at (head_free r r p.free front) in omega (arith, e)
+    free_region = let e = rw (eq-eqb r r refl) at (head_free r r p.free front) in omega (arith, e)
 
     pub front_region : r < length p.tags
     front_region = is_region r (omega (arith, free_region))
@@ -158,8 +158,8 @@ module _ (p : PolicyView) (good : IsGood p) where
       where
         mapped : (j : ℕ) → times j (push_back 0 r p.lists) ≡ one_if_some (at (slice_set p.tags r (Some tag)) j)
         mapped j = elim (cases_eq r j) [
-          | inl e ↦ let t = rw (same_is r r refl) at (times_push r 0 r p.lists good.some.0) in rw (← e, at_same p.tags r (Some tag) front_region) (omega (arith, t, front_not_listed))
-          | inr d ↦ let t = rw (other_is r j d) at (times_push j 0 r p.lists good.some.0) in rw (at_other p.tags r j (Some tag) (λ e. d (sym e))) (omega (arith, t, good.mapped j))
+          | inl e ↦ let t = rw (eq-eqb r r refl) at (times_push r 0 r p.lists good.some.0) in rw (← e, at_same p.tags r (Some tag) front_region) (omega (arith, t, front_not_listed))
+          | inr d ↦ let t = rw (ne_eqb r j d) at (times_push j 0 r p.lists good.some.0) in rw (at_other p.tags r j (Some tag) (λ e. d (sym e))) (omega (arith, t, good.mapped j))
         ]
 
         has : (j k : ℕ) → at (slice_set p.tags r (Some tag)) j ≡ Some k → ((j ≡ r) × (k ≡ tag)) ⊎ (at p.tags j ≡ Some k)
@@ -180,7 +180,7 @@ module _ (p : PolicyView) (good : IsGood p) where
           ]
         ]
 
-at_none : (n j : ℕ) → at (replicate n None) j ≡ None
+pub at_none : (n j : ℕ) → at (replicate n None) j ≡ None
 at_none zero j = refl
 at_none (suc n) zero = refl
 at_none (suc n) (suc j) = at_none n j

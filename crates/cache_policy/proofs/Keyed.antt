@@ -3,8 +3,7 @@ use Rattle.std.proofs.Common.{arith, ◌≡◌, ◌<◌, ◌≤◌, ◌+◌, ℕ
 use Rattle.std.specs.Prelude.{◌==◌, slice_set, filter, is_some, IsSome, if◌then◌else◌}
 use Rattle.std.specs.List.{position_from}
 use Rattle.std.proofs.lemmas.List.{length-set, length-replicate}
-use Rattle.std.proofs.lemmas.Bool.{cases_eq, cases_Bool}
-use Rattle.freq_lists.proofs.Counts.{same_is, other_is}
+use Rattle.std.proofs.lemmas.Bool.{cases_eq, cases_Bool, eq-eqb, ne_eqb}
 use Rattle.key_table.specs.Slots.{TableView, region_of, keys_len}
 use Rattle.cache_policy.specs.Policy.{is_tag}
 use Rattle.cache_policy.specs.Keyed.{IsIndex, AreApart}
@@ -53,7 +52,7 @@ most_len (None ∷ ts) = omega (arith, most_len ts)
 most_len (Some x ∷ ts) = omega (arith, most_len ts)
 
 other_tag : (k t : ℕ) → ¬ (k ≡ t) → is_tag k (Some t) ≡ false
-other_tag k t d = other_is t k (λ e. d (sym e))
+other_tag k t d = ne_eqb t k (λ e. d (sym e))
 
 module _ (keys new : TableView) (ts : List (Option ℕ)) (r tag : ℕ) (is : IsIndex keys ts) (h : r < length ts) where
   -- there is room for the key of a region that has none
@@ -67,8 +66,8 @@ module _ (keys new : TableView) (ts : List (Option ℕ)) (r tag : ℕ) (is : IsI
       → IsIndex new (slice_set ts r (Some tag))
   index_given none free regions len most = record {
     regions = λ k. elim (cases_eq k tag) [
-      | inl e ↦ regions k ∙ rw (same_is k tag e, e) (sym (found_new tag ts r 0 h free ∙ ap (λ (n : ℕ). Some n) (zero_plus r)))
-      | inr d ↦ regions k ∙ rw (other_is k tag d) (is.regions k ∙ sym (unseen (is_tag k) ts r 0 (Some tag) h (rw none refl) (other_tag k tag d)))
+      | inl e ↦ regions k ∙ rw (eq-eqb k tag e, e) (sym (found_new tag ts r 0 h free ∙ ap (λ (n : ℕ). Some n) (zero_plus r)))
+      | inr d ↦ regions k ∙ rw (ne_eqb k tag d) (is.regions k ∙ sym (unseen (is_tag k) ts r 0 (Some tag) h (rw none refl) (other_tag k tag d)))
     ];
     len = let a = rw none at (set_len ts r (Some tag) h) in omega (arith, a, len, is.len);
     most = most ∙ is.most ∙ sym (length-set ts r (Some tag));
@@ -81,8 +80,8 @@ module _ (keys new : TableView) (ts : List (Option ℕ)) (r tag : ℕ) (is : IsI
       → IsIndex new (slice_set ts r None)
   index_forgotten apart here regions len most = record {
     regions = λ k. elim (cases_eq k tag) [
-      | inl e ↦ regions k ∙ rw (same_is k tag e, e) (sym (none_found tag (slice_set ts r None) 0 gone))
-      | inr d ↦ regions k ∙ rw (other_is k tag d) (is.regions k ∙ sym (unseen (is_tag k) ts r 0 None h (rw here (other_tag k tag d)) refl))
+      | inl e ↦ regions k ∙ rw (eq-eqb k tag e, e) (sym (none_found tag (slice_set ts r None) 0 gone))
+      | inr d ↦ regions k ∙ rw (ne_eqb k tag d) (is.regions k ∙ sym (unseen (is_tag k) ts r 0 None h (rw here (other_tag k tag d)) refl))
     ];
     len = let a = rw here at (set_len ts r None h) in omega (arith, a, len, is.len);
     most = most ∙ is.most ∙ sym (length-set ts r None);

@@ -2,8 +2,9 @@
 use Rattle.std.proofs.Common.{arith, ◌≡◌, ◌<◌, ℕ, zero, suc, List, [], ◌∷◌, ◌++◌, sym, ◌∙◌, ap, refl, length, Option, Some, None}
 use Rattle.std.specs.Prelude.{◌==◌, not, slice_set}
 use Rattle.std.proofs.lemmas.List.Elements.{filter-append}
+use Rattle.std.proofs.lemmas.Bool.{eq-eqb}
 use Rattle.freq_lists.specs.Lists.{times, times_in, push_back, unlink, without}
-use Rattle.freq_lists.proofs.Counts.{same_is, times_append}
+use Rattle.freq_lists.proofs.Counts.{times_append}
 use Rattle.cache_policy.specs.Policy.{tag_at}
 use Rattle.cache_policy.specs.Ageing.{candidates_in}
 use Rattle.cache_policy.specs.Kept.{one_if_some}
@@ -18,7 +19,7 @@ none_is (Some t) e = absurd (omega (arith, e))
 
 without_last : (r : ℕ) (l : List ℕ) → times_in r l ≡ 0 → without r (l ++ r ∷ []) ≡ l
 without_last r l none =
-    let one = rw (same_is r r refl) at (times_append r l (r ∷ [])) in
+    let one = rw (eq-eqb r r refl) at (times_append r l (r ∷ [])) in
     without_one r l [] (omega (arith, one, none)) ∙ append_nil l
   where
     append_nil : (xs : List ℕ) → xs ++ [] ≡ xs

@@ -1,19 +1,19 @@
 -- One list is lowered, entry by entry.
 use Rattle.std.proofs.Common.{arith, ◌≡◌, ◌<◌, ◌≤◌, ◌+◌, ℕ, zero, suc, Bool, true, false, List, [], ◌∷◌, ◌++◌, ◌∙◌, ap, inl, inr, refl, length, take, drop, Some, None, append_assoc, append-nil}
 use Rattle.std.specs.Prelude.{not, ◌==◌, filter, slice_get}
-use Rattle.std.proofs.lemmas.Bool.{cases_eq, cases_Bool}
+use Rattle.std.proofs.lemmas.Bool.{cases_eq, cases_Bool, eq-eqb, ne_eqb}
 use Rattle.std.proofs.lemmas.List.Elements.{filter-append}
 use Rattle.freq_lists.specs.Lists.{without, unlink, push_back, times, times_in, next, behind, is_in, head, list_at}
 use Rattle.cache_policy.specs.Steps.{lowering}
-use Rattle.freq_lists.proofs.Counts.{same_is, other_is, times_append}
+use Rattle.freq_lists.proofs.Counts.{times_append}
 use Rattle.freq_lists.proofs.Beside.{without_none}
 
 pub without_one : (n : ℕ) (xs ys : List ℕ) → times_in n (xs ++ n ∷ ys) ≤ 1 → without n (xs ++ n ∷ ys) ≡ xs ++ ys
 without_one n xs ys h =
-    let t : times_in n (n ∷ ys) ≡ 1 + times_in n ys = rw (same_is n n refl) refl in
+    let t : times_in n (n ∷ ys) ≡ 1 + times_in n ys = rw (eq-eqb n n refl) refl in
     let a : times_in n xs ≡ 0 = omega (arith, h, times_append n xs (n ∷ ys), t) in
     let b : times_in n ys ≡ 0 = omega (arith, h, times_append n xs (n ∷ ys), t) in
-    let f : without n (n ∷ ys) ≡ without n ys = rw (same_is n n refl) refl in
+    let f : without n (n ∷ ys) ≡ without n ys = rw (eq-eqb n n refl) refl in
     filter-append (λ m. not (m == n)) xs (n ∷ ys) ∙ rw (without_none n xs a, f, without_none n ys b) refl
 
 pub unlink_none : (n : ℕ) (ls : List (List ℕ)) → times n ls ≡ 0 → unlink n ls ≡ ls
@@ -55,7 +55,7 @@ module _ (goes : ℕ → Bool) (n : ℕ) where
   there zero i (m ∷ l ∷ ls) e =
       let t = taken_one n i l e in
       let keep = filter (λ r. not (goes r)) (take i l) in
-      let at : times_in n (keep ++ n ∷ drop (suc i) l) ≡ times_in n keep + (1 + times_in n (drop (suc i) l)) = times_append n keep (n ∷ drop (suc i) l) ∙ (rw (same_is n n refl) refl) in
+      let at : times_in n (keep ++ n ∷ drop (suc i) l) ≡ times_in n keep + (1 + times_in n (drop (suc i) l)) = times_append n keep (n ∷ drop (suc i) l) ∙ (rw (eq-eqb n n refl) refl) in
       rw t.1 (omega (arith, at))
   there (suc k) i (m ∷ ls) e = omega (arith, there k i ls e)
 
@@ -66,7 +66,7 @@ module _ (goes : ℕ → Bool) (n : ℕ) where
       let t = taken_one n i l e in
       let s = goes_one i l e g in
       let keep = filter (λ r. not (goes r)) (take i l) in
-      let at : times_in n (keep ++ n ∷ drop (suc i) l) ≡ times_in n keep + (1 + times_in n (drop (suc i) l)) = times_append n keep (n ∷ drop (suc i) l) ∙ (rw (same_is n n refl) refl) in
+      let at : times_in n (keep ++ n ∷ drop (suc i) l) ≡ times_in n keep + (1 + times_in n (drop (suc i) l)) = times_append n keep (n ∷ drop (suc i) l) ∙ (rw (eq-eqb n n refl) refl) in
       let once = rw t.1 at h in
       rw (t.1, s.0, s.1, without_none n (m ++ filter goes (take i l)) (omega (arith, once, at)), without_one n keep (drop (suc i) l) (omega (arith, once, at)), unlink_none n ls (omega (arith, once, at)))
       (ap (λ (x : List ℕ). x ∷ (keep ++ drop (suc i) l) ∷ ls) (append_assoc m (filter goes (take i l)) (n ∷ [])))
@@ -75,21 +75,21 @@ module _ (goes : ℕ → Bool) (n : ℕ) where
       rw (without_none n m (omega (arith, h, t)), lowered k i ls e g (omega (arith, h))) refl
 
   behind_at : (xs ys : List ℕ) → times_in n xs ≡ 0 → behind n (xs ++ n ∷ ys) ≡ head ys
-  behind_at [] ys h = rw (same_is n n refl) refl
+  behind_at [] ys h = rw (eq-eqb n n refl) refl
   behind_at (x ∷ xs) ys h = elim (cases_eq x n) [
-    | inl e ↦ absurd (let t = rw (same_is x n e) at h in omega (arith, t))
-    | inr d ↦ let t = rw (other_is x n d) at h in rw (other_is x n d) (behind_at xs ys (omega (arith, t)))
+    | inl e ↦ absurd (let t = rw (eq-eqb x n e) at h in omega (arith, t))
+    | inr d ↦ let t = rw (ne_eqb x n d) at h in rw (ne_eqb x n d) (behind_at xs ys (omega (arith, t)))
   ]
 
   is_in_not : (l : List ℕ) → times_in n l ≡ 0 → is_in n l ≡ false
   is_in_not [] h = refl
   is_in_not (x ∷ xs) h = elim (cases_eq x n) [
-    | inl e ↦ absurd (let t = rw (same_is x n e) at h in omega (arith, t))
-    | inr d ↦ let t = rw (other_is x n d) at h in rw (other_is x n d) (is_in_not xs (omega (arith, t)))
+    | inl e ↦ absurd (let t = rw (eq-eqb x n e) at h in omega (arith, t))
+    | inr d ↦ let t = rw (ne_eqb x n d) at h in rw (ne_eqb x n d) (is_in_not xs (omega (arith, t)))
   ]
 
   is_in_is : (xs ys : List ℕ) → is_in n (xs ++ n ∷ ys) ≡ true
-  is_in_is [] ys = rw (same_is n n refl) refl
+  is_in_is [] ys = rw (eq-eqb n n refl) refl
   is_in_is (x ∷ xs) ys = elim (cases_Bool (x == n)) [
     | inl t ↦ rw t refl
     | inr t ↦ rw t (is_in_is xs ys)
@@ -107,7 +107,7 @@ module _ (goes : ℕ → Bool) (n : ℕ) where
   next_is zero i (m ∷ l ∷ ls) e h =
       let t = taken_one n i l e in
       let keep = filter (λ r. not (goes r)) (take i l) in
-      let at : times_in n (keep ++ n ∷ drop (suc i) l) ≡ times_in n keep + (1 + times_in n (drop (suc i) l)) = times_append n keep (n ∷ drop (suc i) l) ∙ (rw (same_is n n refl) refl) in
+      let at : times_in n (keep ++ n ∷ drop (suc i) l) ≡ times_in n keep + (1 + times_in n (drop (suc i) l)) = times_append n keep (n ∷ drop (suc i) l) ∙ (rw (eq-eqb n n refl) refl) in
       let once = rw t.1 at h in
       rw (t.1, is_in_not (m ++ filter goes (take i l)) (omega (arith, once, at)), is_in_is keep (drop (suc i) l), behind_at keep (drop (suc i) l) (omega (arith, once, at))) (head_drop (suc i) l)
   next_is (suc k) i (m ∷ ls) e h =

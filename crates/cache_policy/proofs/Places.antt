@@ -2,22 +2,22 @@
 use Rattle.std.proofs.Common.{arith, ◌≡◌, ◌<◌, ◌≤◌, ◌+◌, ℕ, zero, suc, Bool, List, [], ◌∷◌, ◌++◌, ◌∙◌, ap, inl, inr, refl, length, drop, Some}
 use Rattle.std.specs.Prelude.{cond, not, ◌==◌, filter}
 use Rattle.std.specs.List.{range_with_len}
-use Rattle.std.proofs.lemmas.Bool.{cases_eq, cases_Bool}
+use Rattle.std.proofs.lemmas.Bool.{cases_eq, cases_Bool, eq-eqb, ne_eqb}
 use Rattle.freq_lists.specs.Lists.{without, unlink, push_back, times, times_in, head}
-use Rattle.freq_lists.proofs.Counts.{same_is, other_is, times_append, times_push, length_unlink, times_without, times_unlink, without_other, unlink_other_times}
+use Rattle.freq_lists.proofs.Counts.{times_append, times_push, length_unlink, times_without, times_unlink, without_other, unlink_other_times}
 use Rattle.cache_policy.specs.Ageing.{lower, lower_rest, lowered_of, candidates_in}
 
 -- a region that stood once is counted once more where it is put again
 pub moved : (r j : ℕ) (ls : List (List ℕ)) → times r ls ≡ 1 → cond (r == j) 1 0 + times j (unlink r ls) ≡ times j ls
 moved r j ls one = elim (cases_eq r j) [
-  | inl e ↦ let o = rw e at one in rw (same_is r j e, e) (omega (arith, times_unlink j ls, o))
-  | inr d ↦ rw (other_is r j d) (omega (arith, unlink_other_times j r ls d))
+  | inl e ↦ let o = rw e at one in rw (eq-eqb r j e, e) (omega (arith, times_unlink j ls, o))
+  | inr d ↦ rw (ne_eqb r j d) (omega (arith, unlink_other_times j r ls d))
 ]
 
 pub moved_in : (r j : ℕ) (l : List ℕ) → times_in r l ≡ 1 → cond (r == j) 1 0 + times_in j (without r l) ≡ times_in j l
 moved_in r j l one = elim (cases_eq r j) [
-  | inl e ↦ let o = rw e at one in rw (same_is r j e, e) (omega (arith, times_without j l, o))
-  | inr d ↦ rw (other_is r j d) (omega (arith, without_other j r l d))
+  | inl e ↦ let o = rw e at one in rw (eq-eqb r j e, e) (omega (arith, times_without j l, o))
+  | inr d ↦ rw (ne_eqb r j d) (omega (arith, without_other j r l d))
 ]
 
 pub pushed_again : (r k j : ℕ) (ls : List (List ℕ)) → times r ls ≡ 1 → k < length ls → times j (push_back k r (unlink r ls)) ≡ times j ls
@@ -43,7 +43,7 @@ pub times_lower : (goes : ℕ → Bool) (j : ℕ) (ls : List (List ℕ)) → tim
 times_lower goes j [] = refl
 times_lower goes j (l ∷ ls) = omega (arith, times_append j l (lowered_of goes ls), times_rest goes j ls)
 
-length_rest : (goes : ℕ → Bool) (ls : List (List ℕ)) → length (lower_rest goes ls) ≡ length ls
+pub length_rest : (goes : ℕ → Bool) (ls : List (List ℕ)) → length (lower_rest goes ls) ≡ length ls
 length_rest goes [] = refl
 length_rest goes (l ∷ ls) = ap suc (length_rest goes ls)
 
@@ -57,18 +57,18 @@ candidate_times r (l ∷ ls) = omega (arith, times_append r l (candidates_in ls)
 
 range_below : (j a n : ℕ) → j < a → times_in j (range_with_len a n) ≡ 0
 range_below j a zero h = refl
-range_below j a (suc n) h = rw (other_is a j (λ e. absurd (omega (arith, e)))) (omega (arith, range_below j (a + 1) n (omega arith)))
+range_below j a (suc n) h = rw (ne_eqb a j (λ e. absurd (omega (arith, e)))) (omega (arith, range_below j (a + 1) n (omega arith)))
 
 range_within : (j a n : ℕ) → a ≤ j → j < a + n → times_in j (range_with_len a n) ≡ 1
 range_within j a zero h g = absurd (omega arith)
 range_within j a (suc n) h g = elim (cases_eq a j) [
-  | inl e ↦ rw (same_is a j e) (omega (arith, range_below j (a + 1) n (omega (arith, e))))
-  | inr d ↦ rw (other_is a j d) (omega (arith, range_within j (a + 1) n (omega (arith, d)) (omega arith)))
+  | inl e ↦ rw (eq-eqb a j e) (omega (arith, range_below j (a + 1) n (omega (arith, e))))
+  | inr d ↦ rw (ne_eqb a j d) (omega (arith, range_within j (a + 1) n (omega (arith, d)) (omega arith)))
 ]
 
 range_past : (j a n : ℕ) → a + n ≤ j → times_in j (range_with_len a n) ≡ 0
 range_past j a zero h = refl
-range_past j a (suc n) h = rw (other_is a j (λ e. absurd (omega (arith, e)))) (omega (arith, range_past j (a + 1) n (omega arith)))
+range_past j a (suc n) h = rw (ne_eqb a j (λ e. absurd (omega (arith, e)))) (omega (arith, range_past j (a + 1) n (omega arith)))
 
 pub all_free : (j n : ℕ) → j < n → times_in j (range_with_len 0 n) ≡ 1
 all_free j n h = range_within j 0 n (omega arith) (omega arith)

@@ -2,9 +2,8 @@
 use Rattle.std.proofs.Common.{arith, ◌≡◌, ◌<◌, ◌≤◌, ◌+◌, ℕ, zero, suc, Bool, true, List, [], ◌∷◌, sym, ap, inl, inr, refl, length, get_or, Option, Some, None}
 use Rattle.std.specs.Prelude.{◌==◌, slice_get, slice_set, option_and_then, IsSome, IfSome, IfNone, if◌then◌else◌}
 use Rattle.std.specs.List.{position_from}
-use Rattle.std.proofs.lemmas.Bool.{cases_eq, cases_Bool}
+use Rattle.std.proofs.lemmas.Bool.{cases_eq, cases_Bool, eq-eqb, ne_eqb}
 use Rattle.std.proofs.lemmas.Bool.Decides.{nat_tests}
-use Rattle.freq_lists.proofs.Counts.{same_is, other_is}
 use Rattle.cache_policy.specs.Policy.{is_tag}
 use Rattle.cache_policy.specs.Kept.{one_if_some}
 
@@ -35,8 +34,8 @@ at_gone (x ∷ ts) (suc r) = at_gone ts r
 
 pub set_at : (ts : List (Option ℕ)) (r j : ℕ) (t : Option ℕ) → r < length ts → at (slice_set ts r t) j ≡ (if j == r then t else at ts j)
 set_at ts r j t h = elim (cases_eq j r) [
-  | inl e ↦ rw (same_is j r e) (rw e (at_same ts r t h))
-  | inr d ↦ rw (other_is j r d) (at_other ts r j t d)
+  | inl e ↦ rw (eq-eqb j r e) (rw e (at_same ts r t h))
+  | inr d ↦ rw (ne_eqb j r d) (at_other ts r j t d)
 ]
 
 pub at_within : (ts : List (Option ℕ)) (r : ℕ) → IsSome (at ts r) → r < length ts
@@ -69,7 +68,7 @@ is_tag_at tag None h = absurd (cc)
 is_tag_at tag (Some t) h = let e : t ≡ tag = grind (arith, nat_tests) in ap (λ (n : ℕ). Some n) e
 
 pub is_tag_same : (tag : ℕ) → is_tag tag (Some tag) ≡ true
-is_tag_same tag = same_is tag tag refl
+is_tag_same tag = eq-eqb tag tag refl
 
 -- what is found has the key
 pub found_at : (tag : ℕ) (ts : List (Option ℕ)) (i g k : ℕ) → position_from (is_tag tag) i ts ≡ Some g → g ≡ i + k → at ts k ≡ Some tag

@@ -1,18 +1,17 @@
 -- Entries and decays of one actor over a cache with a region for each key, one after another.
 use Rattle.std.proofs.Common.{arith, ◌≡◌, ◌<◌, ◌≤◌, ◌+◌, ◌-◌, ◌*◌, ◌/◌, ℕ, zero, suc, Bool, true, false, List, [], ◌∷◌, ◌++◌, sym, subst, ◌∙◌, ap, inl, inr, refl, length, map, get_or, Option, Some, None}
 use Rattle.std.specs.Prelude.{slice_index_or, IsSome, replicate}
-use Rattle.std.proofs.lemmas.Bool.{cases_Bool}
-use Rattle.std.proofs.lemmas.List.{append-nil, append_assoc}
+use Rattle.std.proofs.lemmas.Bool.{cases_Bool, eq-eqb}
+use Rattle.std.proofs.lemmas.List.{append-nil, append_assoc, length-map}
 use Rattle.region_ranges.specs.declared.keys.Config.{Config}
 use Rattle.region_ranges.specs.declared.ranges.ByteRange.{ByteRange}
 use Rattle.region_ranges.specs.Keys.{IsConfig, tag_of}
 use Rattle.sparse_tracker.specs.Places.{ClaimPlaces}
 use Rattle.freq_lists.specs.Lists.{head}
-use Rattle.freq_lists.proofs.Counts.{same_is}
 use Rattle.cache_policy.specs.Policy.{PolicyView, tag_at, find, new_policy}
 use Rattle.cache_policy.specs.Ageing.{touch, decay}
 use Rattle.cache_policy.proofs.Tags.{at, found_at, not_found}
-use Rattle.cache_policy.proofs.Good.{good_new}
+use Rattle.cache_policy.proofs.Good.{good_new, at_none}
 use Rattle.region_cell.specs.Cells.{len_of, claim_run, region_bytes}
 use Rattle.cache_outside.specs.Listing.{Listing}
 use Rattle.blob_parts.specs.Content.{content}
@@ -21,7 +20,6 @@ use Rattle.cache_door.specs.declared.answers.Entered.{Entered}
 use Rattle.cache_door.specs.declared.answers.Entered.TheVariants.{Gone}
 use Rattle.cache_door.specs.Machine.{State, Cell, no_cell, enter, enter_at, place, hold, new_cell}
 use Rattle.cache_door.specs.Takes.{Once, want_of, taken_by, after, spread_over}
-use Rattle.cache_door.proofs.Frames.{length_map}
 use Rattle.cache_reader.specs.Parts.{ReadSetting, bytes_of, places_of}
 use Rattle.cache_reader.specs.Alone.{FilePart, entry_for, outcome_over}
 use Rattle.cache_reader.specs.Once.{Act, entry, ageing, act_outcome, key_of_part, IsListed, AreListed, HasEntryFor, AreApart, TakesOnce}
@@ -106,7 +104,7 @@ module _ (law : ClaimPlaces) {settings : Config} {keys : List ℕ} {Files : ℕ 
       let some : IsSome (at p.tags r) = subst P (sym mapped) refl in
       let same = touched r c.now p u.policy some in
       let len : len_of (get_or cs r no_cell).region ≡ want.len = u.sized r tag mapped ∙ sym size in
-      rw (same_is (len_of (get_or cs r no_cell).region) want.len len)
+      rw (eq-eqb (len_of (get_or cs r no_cell).region) want.len len)
       (held (touch r c.now p) cs places r (keys_kept p (touch r c.now p) cs places same u) (ap (λ (ts : List (Option ℕ)). at ts r) same.tags ∙ mapped))
 
   -- it is not, and there is a free region for it
@@ -191,11 +189,6 @@ module _ (law : ClaimPlaces) (settings : Config) (keys : List ℕ) (Files : ℕ 
 
 -- ---- from the first state on
 
-at_none : (n r : ℕ) → at (replicate n None) r ≡ None
-at_none zero r = refl
-at_none (suc n) zero = refl
-at_none (suc n) (suc r) = at_none n r
-
 no_tag : (n r tag : ℕ) → at (replicate n None) r ≡ Some tag → ⊥
 no_tag n r tag e = let f = sym (at_none n r) ∙ e in absurd (cc)
 
@@ -211,7 +204,7 @@ first_untaken blobs settings keys Files frames is most long =
     record {
       policy = good_new settings.regions settings.max_freq settings.min_delta is.regions.0 (omega (arith, regions)) is.max_freq most;
       leaving = refl;
-      cells = length_map (new_cell settings.region) frames ∙ long;
+      cells = length-map frames (new_cell settings.region) ∙ long;
       tags = length_none settings.regions;
       listed = λ r tag e. absurd (no_tag settings.regions r tag e);
       sized = λ r tag e. absurd (no_tag settings.regions r tag e);

@@ -9,6 +9,7 @@ use Rattle.std.proofs.lemmas.Nat.{div_below, le-div}
 use Rattle.std.proofs.Math.Nat.{mul-le-mul_right, lt-div-mul-add, div-mul-le_self}
 use Rattle.region_ranges.specs.declared.ranges.ByteRange.{ByteRange}
 use Rattle.cache_door.specs.Takes.{part, parts}
+use Rattle.cache_reader.proofs.Taken.{row_more}
 
 -- the end of the aligned range that `at` lies in
 abbrev pub next_cut : ℕ → ℕ → ℕ
@@ -30,9 +31,6 @@ parts_some range at end less = let z : (end - at == 0) ≡ false = grind (arith,
 same_from : (f g : ℕ → ByteRange) (lo n : ℕ) → ((j : ℕ) → lo ≤ j → f j ≡ g j) → map f (range_with_len lo n) ≡ map g (range_with_len lo n)
 same_from f g lo zero h = refl
 same_from f g lo (suc n) h = ap (λ x. x ∷ map f (range_with_len (lo + 1) n)) (h lo (omega arith)) ∙ ap (λ l. g lo ∷ l) (same_from f g (lo + 1) n (λ j le. h j (omega (arith, le))))
-
-row_more : (k range : ℕ) → (k + 1) * range ≡ k * range + range
-row_more k range = grind arith
 
 same_range : (a b d e : ℕ) → a ≡ d → b ≡ e → cut_at a b ≡ cut_at d e
 same_range a b d e p q = ap (λ x. cut_at x b) p ∙ ap (λ x. cut_at d x) q

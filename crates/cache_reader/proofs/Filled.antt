@@ -1,18 +1,18 @@
 -- A claim in a cell, the store of its whole gap, and the end of the hold: what is present then.
-use Rattle.std.proofs.Common.{arith, ◌≡◌, ◌<◌, ◌≤◌, ◌+◌, ◌-◌, ◌/◌, ℕ, suc, true, List, [], ◌∷◌, sym, ◌∙◌, ap, inl, inr, refl, length, set, get_or, Some}
+use Rattle.std.proofs.Common.{arith, ◌≡◌, ◌<◌, ◌≤◌, ◌+◌, ◌-◌, ◌/◌, ℕ, List, sym, ◌∙◌, ap, inl, inr, refl, length, set, get_or, Some}
 use Rattle.std.specs.Prelude.{◌&&◌, nat_lt, slice_get, if◌then◌else◌}
-use Rattle.std.proofs.lemmas.Bool.{cases_Bool}
-use Rattle.std.proofs.lemmas.Bool.Decides.{nat_tests}
+use Rattle.std.proofs.lemmas.Bool.{cases_Bool, eq-eqb, lt-ltb}
 use Rattle.std.proofs.lemmas.List.{get_or-set_same, get_or-set_other, length-set}
 use Rattle.region_ranges.specs.declared.ranges.ByteRange.{ByteRange}
 use Rattle.region_ranges.specs.Ranges.{aligned, inside}
+use Rattle.region_ranges.proofs.Walks.{inside_is}
 use Rattle.sparse_tracker.specs.ByteStates.{ByteState, absent, pending, present, Tracker, is_under, change_from, least_unused, ids, open_gap, progress}
 use Rattle.sparse_tracker.specs.Places.{ClaimPlaces}
 use Rattle.sparse_tracker.proofs.Spots.{slot_change}
 use Rattle.region_cell.specs.Cells.{Region, len_of, claim_run, range_round}
-use Rattle.region_cell.proofs.Orders.{part_gives}
+use Rattle.region_cell.proofs.Orders.{part_gives, in_gives}
+use Rattle.region_cell.proofs.Places.{length_change}
 use Rattle.cache_door.specs.Machine.{Cell, no_cell}
-use Rattle.freq_lists.proofs.Counts.{same_is}
 
 -- ---- the run of a claim
 
@@ -42,22 +42,9 @@ opened_state g run i l = if inside run i then pending g else l
 abbrev moved_state : ℕ → ℕ → ℕ → ByteState → ByteState
 moved_state g to i l = if is_under g l && nat_lt i to then present else l
 
-length_change : (f : ℕ → ByteState → ByteState) (a : ℕ) (ls : List ByteState) → length (change_from a f ls) ≡ length ls
-length_change f a [] = refl
-length_change f a (l ∷ ls) = ap suc (length_change f (a + 1) ls)
-
 changed : (f : ℕ → ByteState → ByteState) (ls : List ByteState) (i : ℕ) (l : ByteState) → slice_get ls i ≡ Some l
     → slice_get (change_from 0 f ls) i ≡ Some (f i l)
 changed f ls i l e = let z : 0 + i ≡ i = omega arith in slot_change f 0 ls i l e ∙ ap (λ (k : ℕ). Some (f k l)) z
-
-in_run : (run : ByteRange) (i : ℕ) → run.start ≤ i → i < run.end → inside run i ≡ true
-in_run run i low high = grind (arith, nat_tests)
-
-run_in : (run : ByteRange) (i : ℕ) → inside run i ≡ true → (run.start ≤ i) × (i < run.end)
-run_in run i h = (grind (arith, nat_tests), grind (arith, nat_tests))
-
-below : (i to : ℕ) → i < to → nat_lt i to ≡ true
-below i to h = grind (arith, nat_tests)
 
 absent_present : Some absent ≡ Some present → ⊥
 absent_present e = cc
@@ -77,13 +64,13 @@ module _ (run : ByteRange) (to : ℕ) (t : Tracker) where
       → slice_get gone_through.byte_states i ≡ Some present
   through_filled i low high less e =
       let a : slice_get (open_gap run t).byte_states i ≡ Some (pending g) = changed (opened_state g run) t.byte_states i absent e
-      ∙ rw (in_run run i low high) refl in
-      changed (moved_state g to) (open_gap run t).byte_states i (pending g) a ∙ rw (same_is g g refl, below i to less) refl
+      ∙ rw (inside_is run i low high) refl in
+      changed (moved_state g to) (open_gap run t).byte_states i (pending g) a ∙ rw (eq-eqb g g refl, lt-ltb i to less) refl
 
   pub through_stays : (i : ℕ) → ((j : ℕ) → run.start ≤ j → j < run.end → slice_get t.byte_states j ≡ Some absent) → slice_get t.byte_states i ≡ Some present
       → slice_get gone_through.byte_states i ≡ Some present
   through_stays i all e = elim (cases_Bool (inside run i)) [
-    | inl y ↦ let w = run_in run i y in absurd (absent_present (sym (all i w.0 w.1) ∙ e))
+    | inl y ↦ let w = in_gives run i y in absurd (absent_present (sym (all i w.0 w.1) ∙ e))
     | inr n ↦
         let a : slice_get (open_gap run t).byte_states i ≡ Some present = changed (opened_state g run) t.byte_states i present e ∙ rw n refl in
         changed (moved_state g to) (open_gap run t).byte_states i present a

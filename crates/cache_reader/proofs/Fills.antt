@@ -2,8 +2,7 @@
 use Rattle.std.proofs.Common.{arith, ◌≡◌, ◌≤◌, ◌+◌, ◌-◌, ℕ, List, [], ◌∷◌, ◌++◌, length, take, drop, Bool, false, Option, Some, None, refl, ap, sym, subst, ◌∙◌, slice_get, map, min}
 use Rattle.std.specs.Prelude.{IsTrue}
 use Rattle.std.specs.List.{flat_map, concat}
-use Rattle.std.proofs.Math.Seq.{take-add}
-use Rattle.std.proofs.lemmas.List.{length-append, length-take, length-drop, drop-drop}
+use Rattle.std.proofs.lemmas.List.{length-append, length-take, length-drop}
 use Rattle.std.proofs.lemmas.List.FromFn.{length-map-range_with_len}
 use Rattle.mount_manifest.specs.declared.record.FileRecord.{FileRecord}
 use Rattle.cache_outside.specs.Listing.{Listing}
@@ -17,6 +16,7 @@ use Rattle.cache_reader.specs.Parts as parts
 use Rattle.cache_reader.specs.Going.{Moment, Goes}
 use Rattle.cache_reader.specs.Filling.{Filling, Partly, Whole}
 use Rattle.blob_parts.specs.Reading.{took_both}
+use Rattle.blob_parts.proofs.Taken.{slice_more}
 use Rattle.cache_reader.proofs.Joins.{goes_more, goes_none, counted_more, counted_none, took_none, rose_first, rose_then}
 
 -- a file has as many places as bytes
@@ -37,9 +37,6 @@ places_are blobs m f = places_in blobs (slice_get (files_at blobs m) f)
 
 pub slice_length : {X : Type 0} (xs : List X) (at n : ℕ) → at + n ≤ length xs → length (slice_of xs at n) ≡ n
 slice_length xs at n h = length-take n (drop at xs) ∙ ap (min n) (length-drop at xs) ∙ omega (arith, h)
-
-pub slice_joined : {X : Type 0} (xs : List X) (at m n : ℕ) → slice_of xs at m ++ slice_of xs (at + m) n ≡ slice_of xs at (m + n)
-slice_joined xs at m n = sym (take-add m n (drop at xs) ∙ ap (λ ys. take m (drop at xs) ++ take n ys) (drop-drop m at xs))
 
 goes_as : (c : ReadSetting) (m n : ℕ) (x y : Moment) → m ≡ n → Goes c (fetched_bytes m) x y → Goes c (fetched_bytes n) x y
 goes_as c m n x y e h = subst (λ k. Goes c (fetched_bytes k) x y) e h
@@ -66,7 +63,7 @@ filling_more c file base from at n q r s x y z le h goes count took =
           let both = took_both x.source.reads y.source.reads z.source.reads (slice_of (parts.places_of c file) (base + from) (at - from)) (slice_of (parts.places_of c file) (base + at) n) (h.took told) (took told) in
           let glue : slice_of (parts.places_of c file) (base + from) (at - from) ++ slice_of (parts.places_of c file) (base + at) n ≡ slice_of (parts.places_of c file) (base + from) (at + n - from) =
           ap (λ k. slice_of (parts.places_of c file) (base + from) (at - from) ++ slice_of (parts.places_of c file) k n) (sym place)
-          ∙ slice_joined (parts.places_of c file) (base + from) (at - from) n ∙ ap (slice_of (parts.places_of c file) (base + from)) e in
+          ∙ slice_more (parts.places_of c file) (base + from) (at - from) n ∙ ap (slice_of (parts.places_of c file) (base + from)) e in
           subst (λ ps. Took x.source.reads z.source.reads ps) glue both;
     }
 

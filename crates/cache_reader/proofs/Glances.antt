@@ -2,7 +2,7 @@
 use Rattle.std.proofs.Common.{arith, ◌≡◌, ◌<◌, ◌≤◌, ◌+◌, ◌-◌, ◌*◌, ◌/◌, ℕ, zero, suc, Bool, true, false, List, [], ◌∷◌, ◌++◌, sym, subst, ◌∙◌, ap, inl, inr, refl, length, take, drop, set, get_or, Option, Some, None, length-drop, length-take}
 use Rattle.std.specs.Prelude.{◌==◌, ◌&&◌, nat_lt, nat_le, max, not, map, reverse, slice_get, slice_range, option_and_then, IsTrue}
 use Rattle.std.specs.List.{prefix_len, position_from, list_all}
-use Rattle.std.proofs.lemmas.Bool.{cases_Bool, cases_lt, false≢true}
+use Rattle.std.proofs.lemmas.Bool.{cases_Bool, cases_lt, false≢true, and_parts, not-true}
 use Rattle.std.proofs.lemmas.Bool.Decides.{nat_tests}
 use Rattle.std.proofs.lemmas.List.{get_or-drop, get_or-take, get_or-reverse, get_or-set_same}
 use Rattle.std.proofs.lemmas.List.Sums.{prefix_len_passes, prefix_len_stops}
@@ -33,7 +33,7 @@ use Rattle.cache_reader.proofs.Rooms.{found_inside}
 use Rattle.cache_policy.proofs.Tags.{not_below, is_tag_at}
 use Rattle.cache_door.proofs.Mapping.{no_weight}
 use Rattle.cache_door.proofs.Frames.{set_twice}
-use Rattle.sparse_tracker.proofs.Spots.{flip, flop}
+use Rattle.sparse_tracker.proofs.Spots.{flop}
 use Rattle.cache_door.proofs.OneOwner.{some_none}
 
 -- ---- flags of states
@@ -88,7 +88,7 @@ module _ (free : List Bool) (start : ℕ) (sub : ByteRange) (low : start ≤ sub
       let p = prefix_len_passes not (drop (max sub.start start) free) (i - max sub.start start) false (omega arith) in
       let s : max sub.start start + (i - max sub.start start) ≡ i = omega arith in
       let q = get_or-drop (max sub.start start) free (i - max sub.start start) false in
-      flip (get_or free i false) (ap (λ (k : ℕ). not (get_or free k false)) (sym s) ∙ ap not (sym q) ∙ p)
+      not-true (get_or free i false) (ap (λ (k : ℕ). not (get_or free k false)) (sym s) ∙ ap not (sym q) ∙ p)
 
   reached : first < length free → get_or free first false ≡ true
   reached h =
@@ -198,15 +198,11 @@ none_total f (y ∷ z ∷ zs) a d l h e = absurd (omega (arith, l))
 
 -- ---- what a look tells
 
-and_both : (a b : Bool) → (a && b) ≡ true → (a ≡ true) × (b ≡ true)
-and_both true b e = (refl, e)
-and_both false b e = absurd (false≢true e)
-
 looked : (want : Want) (c : Region) → look_at want c ≡ glance.Copied → are_present want.sub c ≡ true
 looked want c e = elim (cases_Bool (c.tag == tag_of want.key)) [
   | inr f ↦ absurd (moved_copied (rw f at e))
   | inl t ↦ elim (cases_Bool (nat_le want.sub.end (len_of c) && are_present want.sub c)) [
-    | inl y ↦ (and_both (nat_le want.sub.end (len_of c)) (are_present want.sub c) y).1
+    | inl y ↦ (and_parts (nat_le want.sub.end (len_of c)) (are_present want.sub c) y).1
     | inr n ↦ absurd (absent_copied (rw (t, n) at e))
   ]
 ]

@@ -1,17 +1,13 @@
 -- A region that the only actor holds: its ticket is not failed, and where its gap is closed all bytes of the hold are present.
-use Rattle.std.proofs.Common.{arith, ◌≡◌, ◌<◌, ◌≤◌, ◌+◌, ℕ, zero, suc, Bool, true, false, List, [], ◌∷◌, ◌++◌, sym, subst, ◌∙◌, ap, inl, inr, refl, length, take, drop, get_or, Option, Some, None}
-use Rattle.std.specs.Prelude.{◌==◌, nat_lt, slice_get, slice_range}
+use Rattle.std.proofs.Common.{arith, ◌≡◌, ◌<◌, ◌≤◌, ◌+◌, ℕ, Bool, true, false, List, [], ◌∷◌, ◌++◌, sym, subst, ◌∙◌, ap, inl, inr, refl, length, Option, Some, None}
+use Rattle.std.specs.Prelude.{◌==◌, slice_get}
 use Rattle.std.specs.List.{list_any, list_all}
 use Rattle.std.proofs.lemmas.Bool.{cases_Bool, cases_lt, false≢true}
-use Rattle.std.proofs.lemmas.Bool.Decides.{nat_tests}
 use Rattle.std.proofs.lemmas.List.{get_or-set_same, length-set}
 use Rattle.region_ranges.specs.declared.ranges.ByteRange.{ByteRange}
 use Rattle.region_ranges.specs.Keys.{tag_of}
-use Rattle.sparse_tracker.specs.declared.gaps.OpenGap.{OpenGap}
 use Rattle.sparse_tracker.specs.declared.tickets.Ticket.{Ticket}
-use Rattle.sparse_tracker.specs.ByteStates.{ByteState, absent, pending, present, Tracker, is_absent, is_present, byte_states_in, least_unused, numbers, ids, new_ticket, open_gap_at}
-use Rattle.sparse_tracker.specs.Kept.{GapsFit}
-use Rattle.sparse_tracker.specs.Weights.{total}
+use Rattle.sparse_tracker.specs.ByteStates.{pending, is_absent, is_present, byte_states_in, least_unused, numbers, ids, new_ticket, open_gap_at}
 use Rattle.freq_lists.specs.Lists.{head}
 use Rattle.cache_policy.specs.Policy.{PolicyView, find}
 use Rattle.cache_policy.specs.Ageing.{touch, map_front}
@@ -19,17 +15,16 @@ use Rattle.region_cell.specs.Cells as cells
 use Rattle.region_cell.specs.Cells.{claim_run, len_of}
 use Rattle.region_cell.specs.declared.taken.Taken.TheVariants as taken
 use Rattle.cache_door.specs.declared.answers.Want.{Want}
-use Rattle.cache_door.specs.declared.answers.Entered.TheVariants.{Held, NoRoom, Gone}
+use Rattle.cache_door.specs.declared.answers.Entered.TheVariants.{Held}
 use Rattle.cache_door.specs.declared.hold.Hold.{Hold}
 use Rattle.cache_door.specs.Machine as machine
 use Rattle.cache_door.specs.Machine.{State, Cell, cell_at, hold_at, no_cell, is_gone, gap_on, hold_on, enter, enter_at, place, make_room, take_bytes, store, store_into, leave}
-use Rattle.cache_door.specs.Good.{Good, weigh_hold, hold_gap}
+use Rattle.cache_door.specs.Good.{Good}
 use Rattle.cache_door.specs.Doors.{hold_view}
 use Rattle.cache_reader.specs.Holds.{Unfailed}
 use Rattle.cache_reader.proofs.Rooms.{found_inside, front_inside, held_same}
-use Rattle.cache_door.proofs.Alone.{no_gaps, one_total, cut_get, take_get, drop_get, all_there, none_pending, weigh_closed}
+use Rattle.cache_door.proofs.Alone.{no_gaps, cut_get, all_there, none_pending}
 use Rattle.cache_door.proofs.OneOwner.{held_inside, some_none}
-use Rattle.cache_door.proofs.Mapping.{no_weight}
 use Rattle.cache_door.proofs.Places.{past}
 use Rattle.cache_door.proofs.ClaimsAbsent.{room_held, gone_held}
 use Rattle.cache_door.proofs.Calls.{tickets_open}

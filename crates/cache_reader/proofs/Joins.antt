@@ -10,7 +10,8 @@ use Rattle.cache_reader.specs.Reports.{no_bytes, Grew, Counted}
 use Rattle.cache_reader.specs.Bounds.{Worked}
 use Rattle.cache_reader.specs.Parts.{ReadSetting}
 use Rattle.cache_reader.specs.Going.{moment, Goes}
-pub use Rattle.cache_reader.specs.Through.{grew_none, grew_more, rose_first, rose_then, worked_none, worked_more, goes_none, goes_more, counted_none, counted_more, took_none, bounded_none, bounded_more, takes_none, takes_more}
+pub use Rattle.blob_parts.specs.Reading.{rose_first, rose_then}
+pub use Rattle.cache_reader.specs.Through.{grew_none, grew_more, worked_none, worked_more, goes_none, goes_more, counted_none, counted_more, took_none, bounded_none, bounded_more, takes_none, takes_more}
 
 pub grew_through : (a b r n : ℕ) → Grew a b r → Grew 0 r n → Grew a b n
 grew_through a b r n h k = record {

@@ -1,6 +1,6 @@
 -- Files of whole manifests that share no blob: no blob is two parts of them, and a mount's table has their lengths.
-use Rattle.std.proofs.Common.{arith, ◌≡◌, ◌<◌, ◌≤◌, ◌+◌, ◌^◌, ℕ, zero, suc, Bool, List, [], ◌∷◌, ◌++◌, sym, subst, ◌∙◌, ap, inl, inr, refl, length, map, Option, Some, None, Ok, Err}
-use Rattle.std.specs.Prelude.{◌==◌, slice_get, sum_by, option_map, replicate}
+use Rattle.std.proofs.Common.{arith, ◌≡◌, ◌<◌, ◌+◌, ℕ, zero, suc, Bool, List, [], ◌∷◌, ◌++◌, sym, subst, ◌∙◌, ap, inl, inr, refl, length, map, Option, Some, None, Ok, Err}
+use Rattle.std.specs.Prelude.{◌==◌, slice_get, option_map, replicate}
 use Rattle.std.specs.Str.{is_utf8, chars}
 use Rattle.serde_json.proofs.OnLiterals.{serde_json_on_literals}
 use Rattle.std.specs.List.{position_from, range_with_len, flat_map, concat}
@@ -9,6 +9,7 @@ use Rattle.std.proofs.lemmas.Bool.Decides.{nat_tests}
 use Rattle.std.proofs.lemmas.List.FromFn.{length-map-range_with_len}
 use Rattle.std.proofs.lemmas.Option.{slice_get-map, slice_get_within, slice_get_past}
 use Rattle.std.proofs.lemmas.Slice.Eq.{bytes_eq-Decides}
+use Rattle.std.proofs.lemmas.List.{length-map}
 use Rattle.sparse_tracker.specs.Places.{ClaimPlaces}
 use Rattle.cache_outside.specs.Listing.{Listing, manifests, is_named, place_of, blob_bytes, blob_size}
 use Rattle.mount_manifest.specs.declared.record.FileRecord.{FileRecord}
@@ -20,11 +21,11 @@ use Rattle.blob_parts.specs.Content.{text_of, content, bytes_of, places_of, file
 use Rattle.blob_parts.specs.Tables.{FileParts, IsCut, IsFound, blob_places, file_length, lengths_of}
 use Rattle.blob_parts.proofs.Named.{place_below}
 use Rattle.blob_parts.proofs.Placed.{found_length}
+use Rattle.blob_parts.proofs.Tabled.{there_is}
 use Rattle.region_ranges.specs.declared.keys.Config.{Config}
 use Rattle.region_ranges.specs.Keys.{IsConfig}
 use Rattle.cache_door.specs.Machine.{new_state, new_cell}
 use Rattle.cache_door.specs.Good.{Good}
-use Rattle.cache_door.proofs.Frames.{length_map}
 use Rattle.cache_reader.specs.Parts.{ReadSetting}
 use Rattle.cache_reader.specs.Once.{IsAmong, HaveOwnBlobs, HasLengths}
 use Rattle.cache_reader.specs.MountsOnce.{IsWholeManifest, IsOneOf, AreWhole, manifest_files, manifests_files, ShareNoBlob, MountsOnce, MountsFit}
@@ -51,11 +52,6 @@ first_none : {A B : Type 0} (f : A → Option B) (xs : List A) (i : ℕ) (x : A)
 first_none f [] i x h e = absurd (cc)
 first_none f (y ∷ ys) zero x h e = let s : y ≡ x = cc in ap f (sym s) ∙ (or_none (f y) (first_of f ys) h).0
 first_none f (y ∷ ys) (suc i) x h e = first_none f ys i x (or_none (f y) (first_of f ys) h).1 e
-
-get_some : {X : Type 0} (xs : List X) (i : ℕ) → i < length xs → (x : X) × (slice_get xs i ≡ Some x)
-get_some [] i h = absurd (omega (arith, h))
-get_some (x ∷ xs) zero h = (x, refl)
-get_some (x ∷ xs) (suc i) h = get_some xs i (omega (arith, h))
 
 -- ---- blobs by name
 
@@ -218,12 +214,12 @@ mounts_once law settings told frames blobs numbers taken t is most long few whol
 
 -- ---- a mount's table
 
-append_left : {X : Type 0} (xs ys : List X) (i : ℕ) (x : X) → slice_get xs i ≡ Some x → slice_get (xs ++ ys) i ≡ Some x
+pub append_left : {X : Type 0} (xs ys : List X) (i : ℕ) (x : X) → slice_get xs i ≡ Some x → slice_get (xs ++ ys) i ≡ Some x
 append_left [] ys i x e = absurd (cc)
 append_left (y ∷ xs) ys zero x e = e
 append_left (y ∷ xs) ys (suc i) x e = append_left xs ys i x e
 
-append_right : {X : Type 0} (xs ys : List X) (i : ℕ) (x : X) → slice_get ys i ≡ Some x → slice_get (xs ++ ys) (length xs + i) ≡ Some x
+pub append_right : {X : Type 0} (xs ys : List X) (i : ℕ) (x : X) → slice_get ys i ≡ Some x → slice_get (xs ++ ys) (length xs + i) ≡ Some x
 append_right {X = X} [] ys i x e = let z : i ≡ length {A = X} [] + i = omega arith in subst (λ j. slice_get ys j ≡ Some x) z e
 append_right (y ∷ xs) ys i x e = let z : suc (length xs + i) ≡ length (y ∷ xs) + i =
     omega arith in subst (λ j. slice_get (y ∷ xs ++ ys) j ≡ Some x) z (append_right xs ys i x e)
@@ -288,7 +284,7 @@ has_lengths c facts small whole same =
       number = small;
       few = omega (arith, count, few);
       lengths = λ f less.
-          let x = get_some facts.files f (omega (arith, count, less)) in
+          let x = there_is facts.files f (omega (arith, count, less)) in
           let z = lengths_same c.table.files facts.files f x.0 same x.1 in
           let own : file_length c.table f ≡ x.0.length = rw z.1 z.2 in
           let short = (whole.sound.file f x.0 x.1).short in
@@ -307,7 +303,7 @@ first_fits : (tells : Bool) (contents : ℕ → ℕ → List ℕ) (settings : Co
 first_fits tells contents settings told frames actors good =
     let few = good.policy.few in
     let lists = length_lists settings.max_freq in
-    (good.config, omega (arith, few, lists), sym (length_map (new_cell settings.region) frames) ∙ good.counts.cells)
+    (good.config, omega (arith, few, lists), sym (length-map frames (new_cell settings.region)) ∙ good.counts.cells)
 
 pub mounts_fit : MountsFit
 mounts_fit = record {

@@ -1,9 +1,9 @@
 -- Parts of reads as acts on files, and files of which no two parts are one blob.
 use Rattle.std.proofs.Common.{arith, ◌≡◌, ◌<◌, ◌≤◌, ◌+◌, ◌-◌, ◌*◌, ◌/◌, ℕ, zero, suc, Bool, true, false, List, [], ◌∷◌, ◌++◌, sym, subst, ◌∙◌, ap, inl, inr, refl, length, map, Option, Some, None}
-use Rattle.std.specs.Prelude.{◌==◌, ◌||◌, slice_get}
+use Rattle.std.specs.Prelude.{◌==◌, slice_get}
 use Rattle.std.specs.Int.{div_ceil}
 use Rattle.std.specs.List.{range_with_len, flat_map}
-use Rattle.std.proofs.lemmas.Bool.{cases_Bool, cases_lt}
+use Rattle.std.proofs.lemmas.Bool.{cases_Bool, cases_lt, or_left, or_right, eq-eqb}
 use Rattle.std.proofs.lemmas.Bool.Decides.{nat_tests}
 use Rattle.std.proofs.lemmas.Grind.{div_ceil_times}
 use Rattle.std.proofs.lemmas.List.{length-append}
@@ -17,12 +17,11 @@ use Rattle.region_ranges.specs.declared.ranges.ByteRange.{ByteRange}
 use Rattle.region_ranges.specs.Keys.{IsConfig, tag_of}
 use Rattle.sparse_tracker.specs.Places.{ClaimPlaces}
 use Rattle.freq_lists.specs.Lists.{is_in}
-use Rattle.freq_lists.proofs.Counts.{same_is}
 use Rattle.cache_outside.specs.Listing.{Listing}
 use Rattle.mount_manifest.specs.declared.record.FileRecord.{FileRecord}
 use Rattle.mount_manifest.specs.Parts as manifest
 use Rattle.blob_parts.specs.Content as content
-use Rattle.blob_parts.specs.Content.{files_at, part_blob, part_bytes, part_places, place_in, where_at}
+use Rattle.blob_parts.specs.Content.{files_at, part_blob, part_bytes, part_places, place_in}
 use Rattle.blob_parts.specs.Tables.{file_length}
 use Rattle.blob_parts.specs.Going.{AreInTable}
 use Rattle.directory_input.specs.Reads.{Read}
@@ -52,7 +51,7 @@ in_range f k lo zero low high = absurd (omega (arith, low, high))
 in_range f k lo (suc n) low high = elim (cases_Bool (f lo == f k)) [
   | inl t ↦ rw t refl
   | inr t ↦
-      let other : lo ≡ k → ⊥ = λ e. false_true (sym t ∙ same_is (f lo) (f k) (ap f e)) in
+      let other : lo ≡ k → ⊥ = λ e. false_true (sym t ∙ eq-eqb (f lo) (f k) (ap f e)) in
       rw t (in_range f k (lo + 1) n (above lo k low other) (omega (arith, high)))
 ]
   where
@@ -64,13 +63,6 @@ in_range f k lo (suc n) low high = elim (cases_Bool (f lo == f k)) [
       | inl l ↦ omega (arith, l)
       | inr g ↦ absurd (n (omega (arith, h, g)))
     ]
-
-or_left : (a b : Bool) → a ≡ true → (a || b) ≡ true
-or_left a b e = rw e refl
-
-or_right : (a b : Bool) → b ≡ true → (a || b) ≡ true
-or_right true b e = refl
-or_right false b e = e
 
 tag_among : (size : ℕ) (blobs : Listing) (files : List (ℕ × ℕ)) (m f k i : ℕ) → slice_get files i ≡ Some (m, f) → k < region_count size blobs (m, f)
     → is_in (tag_of (record { manifest = m; file = f; region = k })) (files_tags size blobs files) ≡ true

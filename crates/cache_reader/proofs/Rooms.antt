@@ -1,21 +1,22 @@
 -- What an entry leaves of the policy: the key is mapped to the answer's region, and an access at the same time changes nothing.
 use Rattle.std.proofs.Common.{append-nil, append_assoc, arith, ◌≡◌, ◌<◌, ◌+◌, ◌-◌, ◌*◌, ℕ, zero, suc, Bool, true, false, List, [], ◌∷◌, ◌++◌, sym, subst, ◌∙◌, ap, inl, inr, refl, length, set, get_or, Option, Some, None}
 use Rattle.std.specs.Prelude.{◌==◌, ◌&&◌, nat_lt, nat_le, not, slice_index, IfSome, option_map}
-use Rattle.std.specs.List.{filter, position_from}
-use Rattle.std.proofs.lemmas.Bool.{cases_Bool, cases_lt, false≢true, or_cases}
+use Rattle.std.specs.List.{position_from}
+use Rattle.std.proofs.lemmas.Bool.{cases_Bool, false≢true, or_cases, eq-eqb, eqb-true}
 use Rattle.std.proofs.lemmas.Bool.Decides.{nat_tests}
 use Rattle.std.proofs.lemmas.List.{get_or-set_same, length-set}
 use Rattle.std.proofs.lemmas.List.Folds.{list_any-append}
 use Rattle.region_ranges.specs.declared.ranges.ByteRange.{ByteRange}
 use Rattle.region_ranges.specs.declared.keys.Config.{Config}
 use Rattle.region_ranges.specs.Keys.{tag_of}
-use Rattle.freq_lists.specs.Lists.{is_in, times, times_in, list_of, push_back, unlink, head}
+use Rattle.freq_lists.specs.Lists.{is_in, times, list_of, push_back, unlink, head}
+use Rattle.freq_lists.proofs.Counts.{is_in_times}
 use Rattle.cache_policy.specs.Policy.{PolicyView, find, is_tag, settle, settle_all, rise}
 use Rattle.cache_policy.specs.Ageing.{touch, touch_at, waited, map_front, candidates, candidates_in}
 use Rattle.cache_policy.specs.Kept as policy
 use Rattle.region_cell.specs.Cells.{claim_run, len_of}
 use Rattle.cache_door.specs.declared.answers.Want.{Want}
-use Rattle.cache_door.specs.declared.answers.Entered.TheVariants.{Held, NoRoom, Gone}
+use Rattle.cache_door.specs.declared.answers.Entered.TheVariants.{Held}
 use Rattle.cache_door.specs.declared.hold.Hold.{Hold}
 use Rattle.cache_door.specs.Machine.{State, cell_at, is_gone, is_held_by, unheld_by, settled_by, evicted, room_by, make_room, place, enter, enter_at, store, leave, hold_at}
 use Rattle.cache_door.specs.Good.{Good}
@@ -24,18 +25,17 @@ use Rattle.cache_reader.specs.declared.part.Last.{Last}
 use Rattle.cache_reader.specs.Alone.{Fits, LastFits, SamePolicy}
 use Rattle.cache_door.proofs.OneOwner.{some_none}
 use Rattle.cache_door.proofs.ClaimsAbsent.{room_held, gone_held}
-use Rattle.cache_door.proofs.Places.{kept_in, is_same}
-use Rattle.freq_lists.proofs.Counts.{same_is}
-use Rattle.cache_door.proofs.Fronts.{in_times, placed_inside as below}
+use Rattle.cache_door.proofs.Places.{kept_in}
+use Rattle.cache_door.proofs.Fronts.{placed_inside as below}
 use Rattle.cache_door.proofs.Mapping.{head_in}
-use Rattle.cache_door.proofs.Enters.{find_unmapped, evicted_find, room_find}
+use Rattle.cache_door.proofs.Enters.{room_find}
 
 -- ---- members of lists
 
 listed_times : (r : ℕ) (ls : List (List ℕ)) → is_in r (candidates_in ls) ≡ true → 0 < times r ls
 listed_times r [] e = absurd (false≢true e)
 listed_times r (l ∷ ls) e = elim (or_cases (is_in r l) (is_in r (candidates_in ls)) (sym (list_any-append (λ m. m == r) l (candidates_in ls)) ∙ e)) [
-  | inl i ↦ let k = in_times r l i in omega (arith, k)
+  | inl i ↦ let k = is_in_times r l i in omega (arith, k)
   | inr i ↦ let k = listed_times r ls i in omega (arith, k)
 ]
 
@@ -75,8 +75,8 @@ module _ (holds : List (Option Hold)) (p : PolicyView) (good : policy.IsGood p) 
   free_inside r e =
       let P : List ℕ → Type 0 = λ l. is_in r l ≡ true in
       elim (or_cases (is_in r p.free) (is_in r rs) (sym (list_any-append (λ m. m == r) p.free rs) ∙ subst P settled_is.free e)) [
-        | inl i ↦ let k = in_times r p.free i in below p r good (omega (arith, k))
-        | inr i ↦ let k = in_times r p.leaving (kept_in (λ m. not (is_held_by holds m)) r p.leaving i) in below p r good (omega (arith, k))
+        | inl i ↦ let k = is_in_times r p.free i in below p r good (omega (arith, k))
+        | inr i ↦ let k = is_in_times r p.leaving (kept_in (λ m. not (is_held_by holds m)) r p.leaving i) in below p r good (omega (arith, k))
       ]
 
   settled_room : Roomed p (settled_by holds p)
@@ -96,7 +96,7 @@ module _ (holds : List (Option Hold)) (p : PolicyView) (good : policy.IsGood p) 
         inside = λ r i. elim (or_cases (is_in r s.free) (is_in r (q ∷ [])) (sym (list_any-append (λ m. m == r) s.free (q ∷ [])) ∙ i)) [
           | inl j ↦ free_inside r j
           | inr j ↦ elim (cases_Bool (q == r)) [
-            | inl y ↦ (let f = below p q good (omega (arith, t)) in let g = is_same q r y in omega (arith, f, g))
+            | inl y ↦ (let f = below p q good (omega (arith, t)) in let g = eqb-true q r y in omega (arith, f, g))
             | inr n ↦ absurd (false≢true (rw n at j))
           ]
         ];
@@ -112,7 +112,7 @@ module _ (holds : List (Option Hold)) (p : PolicyView) (good : policy.IsGood p) 
 
 find_mapped : (tag i r : ℕ) (ts : List (Option ℕ)) → position_from (is_tag tag) i ts ≡ None → r < length ts → position_from (is_tag tag) i (set ts r (Some tag)) ≡ Some (i + r)
 find_mapped tag i r [] e h = absurd (omega (arith, h))
-find_mapped tag i zero (t ∷ ts) e h = let y : (tag == tag) ≡ true = same_is tag tag refl in let z : i ≡ i + 0 = omega arith in rw y (ap (λ (k : ℕ). Some k) z)
+find_mapped tag i zero (t ∷ ts) e h = let y : (tag == tag) ≡ true = eq-eqb tag tag refl in let z : i ≡ i + 0 = omega arith in rw y (ap (λ (k : ℕ). Some k) z)
 find_mapped tag i (suc r) (t ∷ ts) e h = elim (cases_Bool (is_tag tag t)) [
   | inl y ↦ absurd (some_none (sym (rw y at e)))
   | inr n ↦ let z : i + 1 + r ≡ i + suc r = omega arith in rw n (find_mapped tag (i + 1) r ts (rw n at e) (omega (arith, h)) ∙ ap (λ (k : ℕ). Some k) z)

@@ -1,18 +1,18 @@
 -- A gap that is stored in pieces is stored whole.
-use Rattle.std.proofs.Common.{arith, ◌≡◌, ◌<◌, ◌≤◌, ◌+◌, ◌-◌, ℕ, zero, suc, Bool, true, false, List, [], ◌∷◌, ◌++◌, sym, subst, ◌∙◌, ap, inl, inr, refl, length, take, drop, set, get_or, Option, Some, None}
+use Rattle.std.proofs.Common.{arith, ◌≡◌, ◌<◌, ◌≤◌, ◌+◌, ◌-◌, ℕ, suc, Bool, true, false, List, [], ◌∷◌, ◌++◌, sym, subst, ◌∙◌, ap, inl, inr, refl, length, take, drop, set, Option, Some, None}
 use Rattle.std.specs.Prelude.{◌==◌, ◌&&◌, nat_lt, cond, slice_get, IfSome, option_map, if◌then◌else◌}
-use Rattle.std.proofs.lemmas.Bool.{cases_lt, cases_Bool}
+use Rattle.std.proofs.lemmas.Bool.{cases_lt, cases_Bool, eq-eqb}
 use Rattle.std.proofs.lemmas.Bool.Decides.{nat_tests}
-use Rattle.std.proofs.lemmas.List.{append-nil, append_assoc, length-append, length-take, drop-drop, take_all, drop_all, take_at, drop_at, set-set, length-set, get_or-set_same, get_or_past}
+use Rattle.std.proofs.lemmas.List.{append-nil, append_assoc, length-append, length-take, drop-drop, take_all, drop_all, take_at, drop_at, set-set, length-set, get_or-set_same}
 use Rattle.region_ranges.specs.declared.ranges.ByteRange.{ByteRange}
 use Rattle.sparse_tracker.specs.declared.gaps.OpenGap.{OpenGap}
 use Rattle.sparse_tracker.specs.ByteStates as byte_states
-use Rattle.sparse_tracker.specs.ByteStates.{ByteState, absent, pending, present, Tracker, is_under, change_from, change, move_gap}
+use Rattle.sparse_tracker.specs.ByteStates.{ByteState, absent, pending, present, Tracker, is_under, change_from, move_gap}
 use Rattle.sparse_tracker.specs.Weights.{total, by_gap}
 use Rattle.cache_outside.specs.Frames.{put_at}
 use Rattle.blob_parts.specs.Content.{slice_of}
+use Rattle.blob_parts.proofs.Taken.{slice_more}
 use Rattle.region_cell.specs.Cells as cells
-use Rattle.region_cell.specs.Cells.{Region}
 use Rattle.cache_door.specs.declared.hold.Hold.{Hold}
 use Rattle.cache_door.specs.declared.answers.Entered.TheVariants.{Held}
 use Rattle.cache_door.specs.Machine.{State, Cell, cell_at, hold_at, no_cell, with_cell, with_hold, store, store_into, leave}
@@ -21,12 +21,11 @@ use Rattle.cache_door.specs.Doors.{DoorView, Agrees, HoldView, hold_view}
 use Rattle.cache_door.specs.Takes.{after}
 use Rattle.cache_reader.specs.Parts.{ReadSetting, bytes_of}
 use Rattle.cache_reader.specs.Stored.{rest_stored, gap_stored, StoredTo}
-use Rattle.cache_reader.proofs.Fills.{slice_length, slice_joined}
+use Rattle.cache_reader.proofs.Fills.{slice_length}
 use Rattle.sparse_tracker.proofs.Heavy.{heavy}
-use Rattle.cache_door.proofs.OneOwner.{held_inside as actor_inside, some_none as none_some}
-use Rattle.cache_door.proofs.Places.{is_same}
-use Rattle.freq_lists.proofs.Counts.{same_is}
+use Rattle.cache_door.proofs.OneOwner.{held_inside as actor_inside}
 use Rattle.cache_door.proofs.Weighs.{total-at as total_at}
+use Rattle.cache_door.proofs.Found.{marked, mark_self}
 
 -- ---- bytes: a piece behind a piece
 
@@ -126,28 +125,13 @@ progress_more g to more t le h = same_tracker t _ _ _ _ (byte_states_more g to m
 abbrev mark : ℕ → ℕ → ℕ → ℕ → ℕ → ℕ → ℕ
 mark a b d x y z = cond (x == a) (cond (y == b) (cond (z == d) 1 0) 0) 0
 
-marked : (a b d x y z : ℕ) → 0 < mark a b d x y z → (x ≡ a) × (y ≡ b) × (z ≡ d)
-marked a b d x y z h = elim (cases_Bool (x == a)) [
-  | inl i ↦ elim (cases_Bool (y == b)) [
-    | inl j ↦ elim (cases_Bool (z == d)) [
-      | inl k ↦ (is_same x a i, is_same y b j, is_same z d k)
-      | inr k ↦ absurd (let g = rw (i, j, k) at h in omega (arith, g))
-    ]
-    | inr j ↦ absurd (let g = rw (i, j) at h in omega (arith, g))
-  ]
-  | inr i ↦ absurd (let g = rw i at h in omega (arith, g))
-]
-
-mark_self : (a b d : ℕ) → mark a b d a b d ≡ 1
-mark_self a b d = rw (same_is a a refl, same_is b b refl, same_is d d refl) refl
-
 hold_weighs : (s : State) (a : ℕ) (h : Hold) → hold_at s a ≡ Some h → h.gap.upto < h.gap.end
     → 1 ≤ total (weigh_hold h.region (hold_gap (mark h.gap.id h.gap.upto h.gap.end))) s.holds
 hold_weighs s a h e opened =
     let f = mark h.gap.id h.gap.upto h.gap.end in
     let t = total_at (weigh_hold h.region (hold_gap f)) s.holds a None (actor_inside s a h e) in
     let l : nat_lt h.gap.upto h.gap.end ≡ true = grind (arith, nat_tests) in
-    let w : weigh_hold h.region (hold_gap f) (hold_at s a) ≡ 1 = rw (e, same_is h.region h.region refl, l) (mark_self h.gap.id h.gap.upto h.gap.end) in
+    let w : weigh_hold h.region (hold_gap f) (hold_at s a) ≡ 1 = rw (e, eq-eqb h.region h.region refl, l) (mark_self h.gap.id h.gap.upto h.gap.end) in
     omega (arith, t, w)
 
 -- the gaps of its number in its region's cell end where it ends
@@ -276,7 +260,7 @@ rest_cut xs base from n end le =
     let place : base + (from + n) ≡ base + from + n = omega arith in
     let sum : n + (end - (from + n)) ≡ end - from = omega (arith, le) in
     ap (λ k. slice_of xs (base + from) n ++ slice_of xs k (end - (from + n))) place
-    ∙ slice_joined xs (base + from) n (end - (from + n))
+    ∙ slice_more xs (base + from) n (end - (from + n))
     ∙ ap (slice_of xs (base + from)) sum
 
 -- n bytes of the file from `from` on, and then the rest, is the rest from `from` on: `told` is what is told of the actor's hold

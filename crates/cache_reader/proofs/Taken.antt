@@ -14,7 +14,7 @@ use Rattle.cache_outside.specs.Listing.{Listing}
 use Rattle.cache_outside.specs.Frames.{put_at}
 use Rattle.blob_parts.specs.Content.{content, content_places, where_at, slice_of}
 use Rattle.region_cell.specs.Cells as cells
-use Rattle.region_cell.specs.Cells.{Region, len_of}
+use Rattle.region_cell.specs.Cells.{len_of}
 use Rattle.cache_door.specs.declared.answers.Want.{Want}
 use Rattle.cache_door.specs.declared.answers.Entered.TheVariants.{Held}
 use Rattle.cache_door.specs.Machine.{State, Cell, no_cell, cell_at, with_hold, with_region, gap_on}
@@ -179,7 +179,7 @@ gap_places all r base part (Some g) n place e =
     let less = k.0 in
     record { gap = g; is = refl; less = omega (arith, less); stands = k.1 }
 
-row_more : (k size : ℕ) → (k + 1) * size ≡ k * size + size
+pub row_more : (k size : ℕ) → (k + 1) * size ≡ k * size + size
 row_more k size = grind arith
 
 -- a byte of a region is of that region

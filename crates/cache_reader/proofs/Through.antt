@@ -2,6 +2,7 @@
 use Rattle.std.proofs.Common.{arith, ◌≡◌, ◌≤◌, ◌<◌, ◌+◌, ℕ, Bool, true, false, List, length, take, drop, Option, Some, None, Result, Ok, Err, refl, sym, subst}
 use Rattle.std.specs.Prelude.{IsTrue, IfOk, ◌||◌}
 use Rattle.std.proofs.lemmas.List.{append-nil}
+use Rattle.std.proofs.lemmas.Bool.{or_parts}
 use Rattle.directory_input.specs.Reads.{Read, one_read}
 use Rattle.blob_parts.specs.Tables.{file_length}
 use Rattle.cache_reader.specs.declared.report.Report.{Report}
@@ -23,10 +24,6 @@ use Rattle.cache_reader.specs.Runs.{exactly_one}
 raised : (first more : Bool) → IsTrue first → IsTrue (first || more)
 raised true more h = refl
 raised false more h = absurd (cc)
-
-pub unraised : (first more : Bool) → (first || more) ≡ false → more ≡ false
-unraised false more e = e
-unraised true more e = absurd (cc)
 
 -- what a report counted from nothing is added to the sums
 pub exactly_counted : (c : ReadSetting) (w : State → Outcome) (out_of_memory : Bool) (q r s : Report) (x y : Moment) → Counted q s r → Exactly c w out_of_memory no_bytes r x y → Exactly c w out_of_memory q s x y
@@ -51,7 +48,7 @@ pub read_through : (c : ReadSetting) (a file at size given : ℕ) (k l : Bool) (
     Exactly c (read_outcome c a read) k no_bytes r x y → ByEntries c a (parts_of c.config.range read) k no_bytes r x y → ReadsThrough c a (one_read file at size) q s l (l || k) x y)
 read_through c a file at size given k l q r s x y number inside most h count exact entries =
     let read : Read = record { file = file; at = at; size = size } in
-    let marks = unraised l k in record {
+    let marks : (l || k) ≡ false → k ≡ false = λ e. (or_parts l k e).1 in record {
       allowed = (number, inside, tt);
       marked = raised l k;
       counts = h.counts;

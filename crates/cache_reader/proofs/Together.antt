@@ -4,12 +4,12 @@ use Rattle.std.proofs.lemmas.Slice.{take-put_mid, take-put_mid_below, drop-put_m
 use Rattle.std.proofs.lemmas.List.{drop-drop}
 use borrow.Rule.Slice.PartMut.{put_mid}
 use Rattle.blob_parts.specs.Content.{slice_of}
+use Rattle.blob_parts.proofs.Taken.{slice_more}
 use Rattle.cache_reader.specs.declared.report.Report.{Report}
 use Rattle.cache_reader.specs.Reports.{joined, no_bytes, Counted}
 use Rattle.cache_reader.specs.Parts.{ReadSetting}
 use Rattle.cache_reader.specs.Going.{Moment}
 use Rattle.cache_reader.specs.Filling.{PartGoes}
-use Rattle.cache_reader.proofs.Fills.{slice_joined}
 use Rattle.cache_reader.proofs.Joins.{goes_none, goes_more, counted_none, counted_more, takes_none, takes_more}
 
 pub parts_none : (c : ReadSetting) (r : Report) (x : Moment) → PartGoes c 0 false r r x x
@@ -56,4 +56,4 @@ pub grown : (out part bytes : List ℕ) (done upto n at room : ℕ) → done ≤
     → take done out ≡ slice_of bytes at done → part ≡ slice_of bytes (at + done) n → take upto (put_mid done room out part) ≡ slice_of bytes at upto
 grown out part bytes done upto n at room inside fits whole before more =
     take-put_mid done room out part upto (omega (arith, fits, whole)) inside
-    ∙ ap (λ r. r ++ part) before ∙ ap (λ r. slice_of bytes at done ++ r) more ∙ slice_joined bytes at done n ∙ ap (slice_of bytes at) (sym whole)
+    ∙ ap (λ r. r ++ part) before ∙ ap (λ r. slice_of bytes at done ++ r) more ∙ slice_more bytes at done n ∙ ap (slice_of bytes at) (sym whole)

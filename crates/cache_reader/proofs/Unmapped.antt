@@ -1,9 +1,8 @@
 -- Where there are no more keys than regions, a key that is not mapped finds a free region, and nothing is evicted.
 use Rattle.std.proofs.Common.{arith, ◌≡◌, ◌<◌, ◌≤◌, ℕ, suc, true, List, [], ◌∷◌, sym, ◌∙◌, ap, inl, inr, refl, length, Option, Some, None}
 use Rattle.std.specs.Prelude.{◌==◌}
-use Rattle.std.proofs.lemmas.Bool.{cases_eq, cases_Bool}
+use Rattle.std.proofs.lemmas.Bool.{cases_eq, cases_Bool, eq-eqb, ne_eqb}
 use Rattle.freq_lists.specs.Lists.{is_in, without, times_in, times, head}
-use Rattle.freq_lists.proofs.Counts.{same_is, other_is}
 use Rattle.cache_policy.specs.Policy.{PolicyView, tag_at, settle_all}
 use Rattle.cache_policy.specs.Kept.{IsGood}
 use Rattle.cache_policy.proofs.Tags.{at}
@@ -29,8 +28,8 @@ without_less x (y ∷ l) h = elim (cases_Bool (y == x)) [
 in_without : (x y : ℕ) (l : List ℕ) → ¬ (y ≡ x) → is_in y l ≡ true → is_in y (without x l) ≡ true
 in_without x y [] n h = absurd (cc)
 in_without x y (z ∷ l) n h = elim (cases_eq z x) [
-  | inl e ↦ let g = rw (other_is z y (λ k. n (sym k ∙ e))) at h in rw (same_is z x e) (in_without x y l n g)
-  | inr d ↦ rw (other_is z x d) (elim (cases_Bool (z == y)) [
+  | inl e ↦ let g = rw (ne_eqb z y (λ k. n (sym k ∙ e))) at h in rw (eq-eqb z x e) (in_without x y l n g)
+  | inr d ↦ rw (ne_eqb z x d) (elim (cases_Bool (z == y)) [
     | inl t ↦ rw t refl
     | inr t ↦ let g = rw t at h in rw t (in_without x y l n g)
   ])
@@ -89,4 +88,4 @@ settled_same : (holds : List (Option Hold)) (p : PolicyView) → p.leaving ≡ [
 settled_same holds p left = ap (λ (l : List ℕ). settle_all (unheld_by holds l) p) left
 
 pub room_same : (holds : List (Option Hold)) (p : PolicyView) → p.leaving ≡ [] → 0 < length p.free → room_by holds p ≡ p
-room_same holds p left some = ap (evicted_by holds) (settled_same holds p left) ∙ rw (other_is 0 (length p.free) (λ e. omega (arith, e, some))) refl
+room_same holds p left some = ap (evicted_by holds) (settled_same holds p left) ∙ rw (ne_eqb 0 (length p.free) (λ e. omega (arith, e, some))) refl

@@ -1,12 +1,12 @@
 -- What is kept while no byte is taken twice: each place that was taken is present in the cache.
-use Rattle.std.proofs.Common.{arith, ◌≡◌, ◌<◌, ◌+◌, ◌-◌, ◌*◌, ◌/◌, ℕ, zero, suc, Bool, true, List, [], ◌∷◌, sym, subst, ◌∙◌, ap, inl, inr, refl, length, get_or, Option, Some, None}
-use Rattle.std.specs.Prelude.{◌&&◌, nat_lt, slice_get, IsSome, replicate}
+use Rattle.std.proofs.Common.{arith, ◌≡◌, ◌<◌, ◌+◌, ◌-◌, ◌*◌, ◌/◌, ℕ, Bool, true, List, [], ◌∷◌, sym, subst, ◌∙◌, ap, inl, inr, refl, length, get_or, Option, Some, None}
+use Rattle.std.specs.Prelude.{◌&&◌, nat_lt, slice_get, IsSome}
 use Rattle.std.proofs.lemmas.Bool.{cases_eq, cases_Bool}
 use Rattle.std.proofs.lemmas.Bool.Decides.{nat_tests}
-use Rattle.std.proofs.lemmas.List.{length-set}
+use Rattle.std.proofs.lemmas.List.{length-set, length-replicate}
 use Rattle.region_ranges.specs.declared.keys.Config.{Config}
 use Rattle.region_ranges.specs.Keys.{tag_of}
-use Rattle.sparse_tracker.specs.ByteStates.{ByteState, absent, present}
+use Rattle.sparse_tracker.specs.ByteStates.{absent, present}
 use Rattle.freq_lists.specs.Lists.{is_in, head, list_of}
 use Rattle.cache_policy.specs.Policy.{PolicyView, tag_at, find}
 use Rattle.cache_policy.specs.Ageing.{map_front, touch, touch_at, waited, decay}
@@ -100,10 +100,6 @@ touched r now p good is = touched_at (list_of r p.lists) r now p good is
 
 -- ---- a key is mapped to the front free region, all of whose bytes are absent then
 
-length_all : (n : ℕ) → length (replicate {A = ByteState} n absent) ≡ n
-length_all zero = refl
-length_all (suc n) = ap (λ k. suc k) (length_all n)
-
 -- a cell after an assignment
 abbrev pub assigned_cell : ℕ → ℕ → Cell → Cell
 assigned_cell tag len c = record { region = assign tag len c.region; bytes = c.bytes }
@@ -166,7 +162,7 @@ module _ {blobs : Listing} {settings : Config} {keys : List ℕ} {Files : ℕ �
           let P : ℕ → Type 0 = λ j. tag_at mapped_policy j ≡ Some t in
           let Q : ℕ → Type 0 = λ j. len_of (get_or mapped_cells j no_cell).region ≡ length (region_bytes (content blobs) settings.region t) in
           subst Q (sym is) (
-          ap (λ (c : Cell). len_of c.region) changed_cells.here ∙ length_all len ∙ size
+          ap (λ (c : Cell). len_of c.region) changed_cells.here ∙ length-replicate len absent ∙ size
           ∙ ap (λ (j : ℕ). length (region_bytes (content blobs) settings.region j)) (sym (some_same (sym tag_here ∙ subst P is e))))
       | inr n ↦ ap (λ (c : Cell). len_of c.region) (changed_cells.there k n) ∙ u.sized k t (sym (tag_there k n) ∙ e)
     ];

@@ -1,15 +1,15 @@
 -- Reads behind reads.
-use Rattle.std.proofs.Common.{arith, ◌≡◌, ℕ, List, [], ◌∷◌, ◌++◌, Bool, length, ap, sym, subst, ◌∙◌}
+use Rattle.std.proofs.Common.{arith, ◌≡◌, ℕ, List, [], ◌++◌, Bool, length, ap, sym, subst, ◌∙◌}
 use Rattle.std.specs.Prelude.{IsTrue, ◌&&◌}
 use Rattle.std.proofs.lemmas.Grind.{flat_map-append}
 use Rattle.std.proofs.lemmas.List.Sums.{sum_by-append}
 use Rattle.directory_input.specs.Reads.{Read}
 use Rattle.cache_outside.specs.Listing.{Listing}
 use Rattle.blob_parts.specs.Tables.{TableParts, file_length}
-use Rattle.blob_parts.specs.Going.{AreInTable}
 use Rattle.cache_door.specs.Doors.{DoorLater}
 use Rattle.directory_input.specs.Files.{FilesLater}
 use Rattle.blob_parts.specs.Content.{content}
+use Rattle.blob_parts.specs.Reading.{unmarked, allowed_more}
 use Rattle.cache_reader.specs.declared.part.Setting.{Setting}
 use Rattle.cache_reader.specs.declared.report.Report.{Report}
 use Rattle.cache_reader.specs.Reports.{joined, no_bytes}
@@ -17,12 +17,8 @@ use Rattle.cache_reader.specs.Parts.{ReadSetting, read_setting}
 use Rattle.cache_reader.specs.Going.{Moment}
 use Rattle.cache_reader.specs.Alone.{reads_parts, parts_of, ByEntries}
 use Rattle.cache_reader.specs.Reader.{ReadsThrough, files_seen}
-use Rattle.cache_reader.specs.Through.{counted_none, counted_more, goes_none, goes_more, takes_none, takes_more, unmarked}
+use Rattle.cache_reader.specs.Through.{counted_none, counted_more, goes_none, goes_more, takes_none, takes_more}
 use Rattle.cache_reader.specs.Runs.{exactly_none, exactly_more, entries_none, entries_more}
-
-allowed_more : (table : TableParts) (rs ss : List Read) → AreInTable table rs → AreInTable table ss → AreInTable table (rs ++ ss)
-allowed_more table [] ss h k = k
-allowed_more table (r ∷ rs) ss h k = (h.0, h.1, allowed_more table rs ss h.2 k)
 
 pub no_reads : (c : ReadSetting) (a : ℕ) (total : Report) (out_of_memory : Bool) (x : Moment) → ReadsThrough c a [] total total out_of_memory out_of_memory x x
 no_reads c a total out_of_memory x = record {

@@ -22,8 +22,8 @@ use Rattle.cache_reader.specs.declared.report.Report.{Report}
 use Rattle.cache_reader.specs.Parts.{ReadSetting, bytes_of, places_of}
 use Rattle.cache_reader.specs.Going.{Moment, Goes}
 use Rattle.cache_reader.specs.Alone.{Outcome, part_outcome, outcome_over, read_outcome, reads_outcome, unchanged, then_outcome, whole_of, fetched_by, direct_by, HasOutcome, Calmly, Exactly, FilePart, in_file, parts_of, entry_for, AreEntered, ByEntries}
-use Rattle.blob_parts.specs.Reading.{took_both}
-use Rattle.cache_reader.specs.Through.{took_none, grew_none, grew_more, rose_first, rose_then}
+use Rattle.blob_parts.specs.Reading.{took_both, rose_first, rose_then}
+use Rattle.cache_reader.specs.Through.{took_none, grew_none, grew_more}
 
 -- ---- one behind another
 

@@ -1,14 +1,11 @@
 -- Counts and places, added up.
-use Rattle.std.proofs.Common.{arith, ◌≡◌, ◌<◌, ◌≤◌, ◌+◌, ℕ, List, [], ◌++◌, length, Bool, true, false, Option, Some, None, refl, ap, sym, ◌∙◌, inl, inr}
-use Rattle.std.specs.Prelude.{IsTrue}
+use Rattle.std.proofs.Common.{arith, ◌≡◌, ◌<◌, ◌≤◌, ◌+◌, ℕ, List, [], ◌++◌, length, Bool, false, Option, Some, None, refl, ap, sym, ◌∙◌, inl, inr}
 use Rattle.std.proofs.lemmas.Bool.{cases_lt}
-use Rattle.std.proofs.lemmas.Grind.{flat_map-append}
-use Rattle.std.proofs.lemmas.List.{append-nil, append_assoc, length-append}
+use Rattle.std.proofs.lemmas.List.{append-nil, length-append}
 use Rattle.std.proofs.Math.Nat.{le_refl, le_trans}
 use Rattle.byte_text.specs.Counts.{Rose}
-use Rattle.blob_parts.specs.Content.{spread, spread_one}
 use Rattle.blob_parts.specs.Takes.{Took}
-use Rattle.blob_parts.specs.Reading.{took_both}
+use Rattle.blob_parts.specs.Reading.{took_both, rose_first, rose_then}
 use Rattle.cache_door.specs.declared.work.Work.{Work}
 use Rattle.cache_reader.specs.declared.report.Report.{Report}
 use Rattle.cache_reader.specs.Reports.{joined, no_bytes, Grew, Counted}
@@ -25,12 +22,6 @@ grew_more a b d m n h k = record {
   most = omega (arith, h.most, k.most);
   whole = λ less. let first : b ≡ a + m = h.whole (omega (arith, k.later, less)) in omega (arith, first, k.whole less);
 }
-
-pub rose_first : (a b d : ℕ) → b ≤ d → Rose a b → Rose a d
-rose_first a b d h r = le_trans r h
-
-pub rose_then : (a b d : ℕ) → a ≤ b → Rose b d → Rose a d
-rose_then a b d h r = omega (arith, h, r)
 
 pub worked_none : (w : Work) → Worked no_bytes w w
 worked_none w = record { stored = grew_none w.stored; turned = le_refl w.turned_away; direct = λ h. absurd (omega arith); decays = refl; clears = refl }
@@ -101,7 +92,3 @@ takes_more c k l m n x y z marks first second h j = record {
       (λ r. still (rose_then x.door.frame_faults y.door.frame_faults z.door.frame_faults first.frame_faults r)) in
       omega (arith, length-append h.places j.places, before, then);
 }
-
-pub unmarked : (first then : Bool) → (IsTrue first → IsTrue then) → then ≡ false → first ≡ false
-unmarked false then h e = refl
-unmarked true then h e = let raised = h refl in absurd (cc)

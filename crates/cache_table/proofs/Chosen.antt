@@ -1,18 +1,19 @@
 -- Regions that are passed over while one is chosen, and what an entry tells of the choice.
-use Rattle.std.proofs.Common.{arith, ◌≡◌, ◌≢◌, ◌⊎◌, ◌<◌, ◌≤◌, ◌+◌, ◌-◌, ℕ, zero, suc, Bool, true, false, List, [], ◌∷◌, ◌++◌, sym, subst, ◌∙◌, ap, refl, length, get_or, take, drop, Option, Some, None, inl, inr, cond, ⊎_elim}
-use Rattle.std.specs.Prelude.{◌==◌, ◌&&◌, not, if◌then◌else◌, slice_set, slice_get, IsSome}
-use Rattle.std.specs.List.{list_any}
-use Rattle.std.proofs.lemmas.Bool.{cases_Bool, cases_eq, cases_lt}
+use Rattle.std.proofs.Common.{arith, ◌≡◌, ◌≢◌, ◌⊎◌, ◌<◌, ◌≤◌, ◌+◌, ◌-◌, ℕ, zero, suc, true, false, List, [], ◌∷◌, ◌++◌, sym, subst, ◌∙◌, ap, refl, length, get_or, take, drop, Option, Some, None, inl, inr}
+use Rattle.std.specs.Prelude.{◌==◌, ◌&&◌, not, if◌then◌else◌, slice_set, slice_get}
+use Rattle.std.proofs.lemmas.Bool.{cases_Bool, cases_eq, cases_lt, eq-eqb, ne_eqb}
 use Rattle.std.proofs.lemmas.List.{append_assoc}
 use Rattle.region_ranges.specs.Keys.{tag_of as key_tag}
 use Rattle.region_ranges.specs.declared.ranges.ByteRange.{ByteRange}
-use Rattle.freq_lists.specs.Lists.{times, times_in, head, without}
-use Rattle.freq_lists.proofs.Counts.{same_is, other_is}
+use Rattle.freq_lists.specs.Lists.{times_in, head, without}
+use Rattle.freq_lists.proofs.Counts.{times_append}
 use Rattle.cache_policy.specs.Policy.{PolicyView, tag_at, leave}
 use Rattle.region_cell.specs.Cells.{claim_run, len_of}
 use Rattle.cache_policy.specs.Ageing.{map_front, candidates, touch}
 use Rattle.cache_policy.specs.Laws.{FreeRegionLeaves, CandidatesLeft}
 use Rattle.cache_policy.specs.Kept as policy
+use Rattle.cache_policy.proofs.Candidates.{head_times}
+use Rattle.cache_policy.proofs.Lowered.{take_whole}
 use Rattle.cache_door.specs.declared.answers.Want.{Want}
 use Rattle.cache_door.specs.declared.answers.Entered.{Entered}
 use Rattle.cache_door.specs.declared.answers.Entered.TheVariants.{Held, NoRoom}
@@ -20,12 +21,8 @@ use Rattle.cache_table.specs.Abouts.{About}
 use Rattle.cache_table.specs.declared.view.View.{View}
 use Rattle.cache_table.specs.Rule.{Governs, count_in}
 use Rattle.cache_table.specs.Calls.{PassedOver, FoundAll, Stays-same, Stays-on}
-use Rattle.cache_table.specs.Entries.{Scanned, differs, Unmapped, IsChoice, IsFull, EntersChosen, EntersBy, EntersOther, FindsNoRoom, blank}
+use Rattle.cache_table.specs.Entries.{Scanned, differs, Unmapped, IsChoice, IsFull, EntersChosen, EntersBy, FindsNoRoom, blank}
 use Rattle.cache_table.proofs.Settles.{is_region}
-
-head_times : (r : ℕ) (xs : List ℕ) → head xs ≡ Some r → 0 < times_in r xs
-head_times r [] e = absurd (cc)
-head_times r (x ∷ xs) e = let i : x ≡ r = cc in rw (same_is x r i) (omega arith)
 
 pub front_near : (a : About) (p : PolicyView) (r : ℕ) → Governs a p → head p.free ≡ Some r → r + 1 ≤ a.config.regions
 front_near a p r g e = omega (arith, g.regions, is_region p g.good r (omega (arith, head_times r p.free e)))
@@ -58,10 +55,6 @@ passed_none p = λ i. record p { leaving = sym (append_nil p.leaving) i }
 
 -- ---- what is found held
 
-times_append : (n : ℕ) (xs ys : List ℕ) → times_in n (xs ++ ys) ≡ times_in n xs + times_in n ys
-times_append n [] ys = omega arith
-times_append n (x ∷ xs) ys = omega (arith, times_append n xs ys)
-
 pub found_nothing : (found : List ℕ) → FoundAll [] found
 found_nothing found r h = absurd (omega arith)
 
@@ -73,7 +66,7 @@ found_more xs old new r more all here j h = elim (cases_lt 0 (times_in j xs)) [
   | inl l ↦ omega (arith, all j l, more (j + 1))
   | inr g ↦ elim (cases_eq r j) [
     | inl e ↦ subst (λ (n : ℕ). 0 < count_in (n + 1) new) e here
-    | inr d ↦ absurd (let t = times_append j xs (r ∷ []) in let u = rw (other_is r j d) at t in omega (arith, u, h, g))
+    | inr d ↦ absurd (let t = times_append j xs (r ∷ []) in let u = rw (ne_eqb r j d) at t in omega (arith, u, h, g))
   ]
 ]
 
@@ -108,14 +101,8 @@ found_place n r xs old new lt is more all here =
     let e : n + 1 ≡ suc n = omega arith in
     subst (λ (k : ℕ). FoundAll (take k xs) new) (sym e) (subst (λ (l : List ℕ). FoundAll l new) (sym (place_more n xs lt ∙ ap (λ (y : ℕ). take n xs ++ y ∷ []) (sym is))) (found_more (take n xs) old new r more all here))
 
-take_all : (n : ℕ) (xs : List ℕ) → length xs ≤ n → take n xs ≡ xs
-take_all zero [] h = refl
-take_all (suc n) [] h = refl
-take_all zero (x ∷ xs) h = absurd (omega arith)
-take_all (suc n) (x ∷ xs) h = ap (λ (l : List ℕ). x ∷ l) (take_all n xs (omega arith))
-
 pub found_whole : (n : ℕ) (xs found : List ℕ) → length xs ≤ n → FoundAll (take n xs) found → FoundAll xs found
-found_whole n xs found h all = subst (λ (l : List ℕ). FoundAll l found) (take_all n xs h) all
+found_whole n xs found h all = subst (λ (l : List ℕ). FoundAll l found) (take_whole n xs h) all
 
 none_past : (n : ℕ) (xs : List ℕ) → slice_get xs n ≡ None → length xs ≤ n
 none_past n [] e = omega arith
@@ -124,10 +111,6 @@ none_past (suc n) (x ∷ xs) e = omega (arith, none_past n xs e)
 
 pub found_end : (n : ℕ) (xs found : List ℕ) → slice_get xs n ≡ None → FoundAll (take n xs) found → FoundAll xs found
 found_end n xs found e all = found_whole n xs found (none_past n xs e) all
-
-pub head_get : (xs : List ℕ) → head xs ≡ slice_get xs 0
-head_get [] = refl
-head_get (x ∷ xs) = refl
 
 -- where nothing is free any more, all that was free was passed over
 empty_past : (n : ℕ) (xs : List ℕ) → drop n xs ≡ [] → length xs ≤ n
@@ -171,36 +154,36 @@ one_more x r xs found here k = (
   k.1,
   λ n h. elim (cases_eq x n) [
     | inl w ↦ subst (λ (m : ℕ). 0 < count_in (m + 1) found) w here
-    | inr d ↦ k.2 n (let u = rw (other_is x n d) at h in omega (arith, u))
+    | inr d ↦ k.2 n (let u = rw (ne_eqb x n d) at h in omega (arith, u))
   ],
 )
 
 first_found : (x : ℕ) (xs found : List ℕ) → FoundAll (x ∷ xs) found → 0 < count_in (x + 1) found
-first_found x xs found all = all x (rw (same_is x x refl) (omega arith))
+first_found x xs found all = all x (rw (eq-eqb x x refl) (omega arith))
 
 -- among all, from those without it
 back : (xs : List ℕ) (s i r : ℕ) (found : List ℕ) → slice_get (without s xs) i ≡ Some r → FoundAll (take i (without s xs)) found → 0 < count_in (s + 1) found → Reached xs r found
 back [] s i r found e all here = (i, e, all)
 back (x ∷ xs) s zero r found e all here = elim (cases_eq x s) [
   | inl is ↦
-      let t = same_is x s is in let e' = rw t at e in
+      let t = eq-eqb x s is in let e' = rw t at e in
       one_more x r xs found (subst (λ (m : ℕ). 0 < count_in (m + 1) found) (sym is) here) (back xs s zero r found e' (found_nothing found) here)
-  | inr ne ↦ let f = other_is x s ne in let e' = rw f at e in (0, e', found_nothing found)
+  | inr ne ↦ let f = ne_eqb x s ne in let e' = rw f at e in (0, e', found_nothing found)
 ]
 back (x ∷ xs) s (suc i) r found e all here = elim (cases_eq x s) [
   | inl is ↦
-      let t = same_is x s is in let e' = rw t at e in let all' = rw t at all in
+      let t = eq-eqb x s is in let e' = rw t at e in let all' = rw t at all in
       one_more x r xs found (subst (λ (m : ℕ). 0 < count_in (m + 1) found) (sym is) here) (back xs s (suc i) r found e' all' here)
   | inr ne ↦
-      let f = other_is x s ne in let e' = rw f at e in let all' = rw f at all in
+      let f = ne_eqb x s ne in let e' = rw f at e in let all' = rw f at all in
       one_more x r xs found (first_found x (take i (without s xs)) found all') (back xs s i r found e' (λ n h. all' n (omega arith)) here)
 ]
 
 last_leaving : (s : ℕ) (l : List ℕ) → 0 < times_in s (l ++ s ∷ [])
-last_leaving s l = let t = times_append s l (s ∷ []) in let u = rw (same_is s s refl) at t in omega (arith, u)
+last_leaving s l = let t = times_append s l (s ∷ []) in let u = rw (eq-eqb s s refl) at t in omega (arith, u)
 
 leaving_is : (r s : ℕ) (l : List ℕ) → r ≢ s → times_in r (l ++ s ∷ []) ≡ times_in r l
-leaving_is r s l ne = let t = times_append r l (s ∷ []) in let u = rw (other_is s r (λ e. ne (sym e))) at t in omega (arith, u)
+leaving_is r s l ne = let t = times_append r l (s ∷ []) in let u = rw (ne_eqb s r (λ e. ne (sym e))) at t in omega (arith, u)
 
 choice_before : CandidatesLeft → (p o : PolicyView) (s r tag : ℕ) (found : List ℕ) → o ≡ leave s p → tag_at p s ≡ Some tag → IsChoice r o found → (tag_at p r ≡ Some tag) ⊎ IsChoice r p found
 choice_before law p o s r tag found is mapped (inl h) = elim (cases_eq r s) [
@@ -258,22 +241,22 @@ differs_more k want t noted h = elim (cases_Bool ((t.0 == k) && not ((t.1 == key
 
 -- a cell of another key or length
 pub differs_here : (k : ℕ) (want : Want) (tag len : ℕ) (noted : List (ℕ × ℕ × ℕ)) → (tag ≢ key_tag want.key) ⊎ (len ≢ want.len) → differs k want ((k, tag, len) ∷ noted) ≡ true
-differs_here k want tag len noted (inl ne) = rw (same_is k k refl, other_is tag (key_tag want.key) ne) refl
+differs_here k want tag len noted (inl ne) = rw (eq-eqb k k refl, ne_eqb tag (key_tag want.key) ne) refl
 differs_here k want tag len noted (inr ne) = elim (cases_Bool (tag == key_tag want.key)) [
-  | inl e ↦ rw (same_is k k refl, e, other_is len want.len ne) refl
-  | inr e ↦ rw (same_is k k refl, e) refl
+  | inl e ↦ rw (eq-eqb k k refl, e, ne_eqb len want.len ne) refl
+  | inr e ↦ rw (eq-eqb k k refl, e) refl
 ]
 
 -- a cell of the key and the length, where no other was noted
 pub differs_not : (k : ℕ) (want : Want) (tag len : ℕ) → tag ≡ key_tag want.key → len ≡ want.len → differs k want ((k, tag, len) ∷ []) ≡ false
-differs_not k want tag len e f = rw (same_is tag (key_tag want.key) e, same_is len want.len f, same_is k k refl) refl
+differs_not k want tag len e f = rw (eq-eqb tag (key_tag want.key) e, eq-eqb len want.len f, eq-eqb k k refl) refl
 
 -- ---- the whole entry
 
 stays_left : (p o : PolicyView) (r s t tag : ℕ) → tag_at p r ≡ Some tag → ((n : ℕ) → tag_at o n ≡ (if n == r then None else tag_at p n)) → t ≢ tag → tag_at p s ≡ Some t → tag_at o s ≡ Some t
 stays_left p o r s t tag mapped tags ne at = elim (cases_eq s r) [
   | inl e ↦ absurd (ne (let h : Some t ≡ Some tag = sym at ∙ ap (tag_at p) e ∙ mapped in cc))
-  | inr d ↦ let h = tags s in rw (other_is s r d) at h ∙ at
+  | inr d ↦ let h = tags s in rw (ne_eqb s r d) at h ∙ at
 ]
 
 other_unmapped : (want : Want) (noted : List (ℕ × ℕ × ℕ)) (p o : PolicyView) (v : View) → policy.IsGood p → Unmapped want noted p o → ((k : ℕ) → differs k want noted ≡ true → differs k want v.noted ≡ true) → (s : ℕ) → tag_at p s ≡ Some (key_tag want.key) → differs (s + 1) want v.noted ≡ true
@@ -291,10 +274,10 @@ chosen_by law want noted p o r found (inr (s, is, mapped, seen, tags)) c = choic
 pub enters_other : CandidatesLeft → (a : About) (want : Want) (now : ℕ) (noted : List (ℕ × ℕ × ℕ)) (p o q : PolicyView) (e : _) (v : View) → policy.IsGood p → Unmapped want noted p o → ((k : ℕ) → differs k want noted ≡ true → differs k want v.noted ≡ true) → EntersChosen a want e o q v → EntersBy a want now e p q v
 enters_other law a want now noted p o q (Held r gap) v good un later c = inr record {
   other = other_unmapped want noted p o v good un later;
-  mapped = (let h = c.2 r in rw (same_is r r refl) at h);
+  mapped = (let h = c.2 r in rw (eq-eqb r r refl) at h);
   claimed = c.1;
   choice = chosen_by law want noted p o r v.found_held un c.0;
-  others = λ s t ne other at. (let h = c.2 s in rw (other_is s r ne) at h) ∙ others_stay want noted p o s t un other at;
+  others = λ s t ne other at. (let h = c.2 s in rw (ne_eqb s r ne) at h) ∙ others_stay want noted p o s t un other at;
 }
 enters_other law a want now noted p o q NoRoom v good un later c = absurd c
 enters_other law a want now noted p o q _ v good un later c = absurd c

@@ -1,9 +1,7 @@
 -- What the calls of a door owe the trait.
-use Rattle.std.proofs.Common.{arith, ◌≡◌, ◌≢◌, ◌<◌, ◌≤◌, ◌∙◌, ℕ, Bool, true, false, List, [], ◌∷◌, ap, refl, Option, Some, None, Result, Ok, Err, inl, inr}
-use Rattle.std.specs.Prelude.{◌==◌, IfOk, OnOk, OnErr, IsErr, IsTrue, if◌then◌else◌}
-use Rattle.std.proofs.lemmas.Bool.{cases_Bool}
-use Rattle.freq_lists.proofs.Counts.{same_is}
-use Rattle.byte_text.specs.Counts.{Rose}
+use Rattle.std.proofs.Common.{arith, ◌≡◌, ◌≢◌, ℕ, true, List, ◌∷◌, ap, refl, Result, Ok, Err, inl, inr}
+use Rattle.std.specs.Prelude.{◌==◌, IfOk, OnOk, OnErr, IsErr}
+use Rattle.std.proofs.lemmas.Bool.{cases_Bool, eq-eqb}
 use Rattle.cache_door.specs.Machine.{State}
 use Rattle.cache_door.specs.declared.answers.Entered.{Entered}
 use Rattle.cache_door.specs.declared.answers.Entered.TheVariants.{Gone}
@@ -41,7 +39,7 @@ store_fails (Ok x) a b p q f = tt
 store_fails (Err e) a b p q f = frame_fails a b p q _ f refl
 
 pub marks_first : (m : ℕ) (l : List ℕ) → marks (m ∷ l) m ≡ true
-marks_first m l = rw (same_is m m refl) refl
+marks_first m l = rw (eq-eqb m m refl) refl
 
 pub marks_more : (mount m : ℕ) (l : List ℕ) → marks (mount ∷ l) m ≡ with_mount mount (marks l) m
 marks_more mount m l = elim (cases_Bool (m == mount)) [

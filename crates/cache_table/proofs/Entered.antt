@@ -1,5 +1,5 @@
 -- What an entry tells, from what its parts tell.
-use Rattle.std.proofs.Common.{arith, ◌≡◌, ◌≢◌, ◌⊎◌, ◌<◌, ◌≤◌, ◌+◌, ◌*◌, ◌/◌, ◌%◌, ◌∙◌, ℕ, Bool, true, false, List, sym, subst, ap, refl, Option, Some, None, Result, Ok, Err, inl, inr}
+use Rattle.std.proofs.Common.{arith, ◌≡◌, ◌⊎◌, ◌<◌, ◌+◌, ◌*◌, ◌%◌, ◌∙◌, ℕ, Bool, true, false, List, sym, subst, ap, refl, Option, Some, None, Result, Ok, Err, inl, inr}
 use Rattle.std.specs.Prelude.{IfOk, IfSome, IfNone, IsTrue, ◌↔◌}
 use Rattle.region_ranges.specs.Keys.{tag_of as key_tag}
 use Rattle.cache_policy.specs.Policy.{PolicyView, tag_at}
@@ -16,7 +16,7 @@ use Rattle.cache_door.specs.Doors.{HoldView, hold_view}
 use Rattle.cache_door.specs.Claims.{IsGap}
 use Rattle.cache_table.specs.Abouts.{About}
 use Rattle.cache_table.specs.declared.view.View.{View}
-use Rattle.cache_table.specs.Rule.{count_in, weight, holds_of, tag_of}
+use Rattle.cache_table.specs.Rule.{count_in, holds_of}
 use Rattle.cache_table.specs.Plays.{Changes, faulted}
 use Rattle.cache_table.specs.Calls.{PassedOver, Faults, entered_hold, IsHeld}
 use Rattle.cache_table.specs.Entries.{differs, Unmapped, IsChoice, EntersBy, OnlyLeft}

@@ -1,8 +1,7 @@
 -- Whether a key is found, by the tags of the regions.
-use Rattle.std.proofs.Common.{◌≡◌, ◌≢◌, ℕ, Bool, true, false, Option, Some, None, sym, ◌∙◌, ap, refl, inl, inr}
+use Rattle.std.proofs.Common.{◌≡◌, ◌≢◌, ℕ, true, false, Some, None, sym, ◌∙◌, refl, inl, inr}
 use Rattle.std.specs.Prelude.{◌==◌, if◌then◌else◌}
-use Rattle.std.proofs.lemmas.Bool.{cases_Bool}
-use Rattle.freq_lists.proofs.Counts.{same_is}
+use Rattle.std.proofs.lemmas.Bool.{cases_Bool, eq-eqb}
 use Rattle.cache_policy.specs.Policy.{PolicyView, find, tag_at}
 use Rattle.cache_policy.proofs.Tags.{find_some, not_found, none_only}
 
@@ -23,4 +22,4 @@ not_again tag p q r only gone = find_none tag q (λ s at. elim (cases_Bool (s ==
     none_some e = cc
 
     differ : (s r : ℕ) → (s == r) ≡ false → s ≢ r
-    differ s r f e = let t = same_is s r e in let z : true ≡ false = sym t ∙ f in cc
+    differ s r f e = let t = eq-eqb s r e in let z : true ≡ false = sym t ∙ f in cc

@@ -5,7 +5,7 @@ use mathlib.Core.Option.{some}
 use lib.ListN.{get_elem?}
 use Rattle.atomic_table.specs.Table.{State}
 use Rattle.cache_table.specs.Abouts.{About}
-use Rattle.cache_table.specs.Rule.{Ruled, Fits, Shelved, at_of}
+use Rattle.cache_table.specs.Rule.{Ruled, Shelved}
 use Rattle.cache_table.specs.declared.view.View.{View}
 use Rattle.cache_table.specs.declared.home.Home.{Home}
 use Rattle.cache_table.specs.declared.home.Home.TheVariants.{Policy, Cell, Away}

@@ -7,8 +7,7 @@ use lib.ListN.{get_elem?}
 use Rattle.std.specs.Prelude.{true, Option}
 use Rattle.sparse_tracker.specs.Weights.{total}
 use Rattle.cache_door.specs.declared.hold.Hold.{Hold}
-use Rattle.std.proofs.lemmas.Bool.{cases_eq}
-use Rattle.freq_lists.proofs.Counts.{same_is, other_is}
+use Rattle.std.proofs.lemmas.Bool.{cases_eq, eq-eqb, ne_eqb}
 use Rattle.cache_table.specs.Calls.{marks}
 use Rattle.cache_table.specs.Rule.{only, times, count_in, Noted, regions_in, at_of, value, weight}
 
@@ -85,13 +84,13 @@ module _ {A : Type 0} (g : A → ℕ) where
 pub marks_of : (m : ℕ) (l : List ℕ) → 0 < count_in m l → marks l m ≡ true
 marks_of m [] h = absurd (omega arith)
 marks_of m (x ∷ xs) h = elim (cases_eq x m) [
-  | inl e ↦ rw (same_is m x (sym e)) refl
-  | inr d ↦ let u = rw (other_is x m d) at h in rw (other_is m x (λ e. d (sym e)), marks_of m xs (omega (arith, u))) refl
+  | inl e ↦ rw (eq-eqb m x (sym e)) refl
+  | inr d ↦ let u = rw (ne_eqb x m d) at h in rw (ne_eqb m x (λ e. d (sym e)), marks_of m xs (omega (arith, u))) refl
 ]
 
 pub count_of : (m : ℕ) (l : List ℕ) → marks l m ≡ true → 0 < count_in m l
 count_of m [] h = absurd (cc)
 count_of m (x ∷ xs) h = elim (cases_eq x m) [
-  | inl e ↦ rw (same_is x m e) (omega arith)
-  | inr d ↦ let u = rw (other_is m x (λ e. d (sym e))) at h in rw (other_is x m d) (omega (arith, count_of m xs u))
+  | inl e ↦ rw (eq-eqb x m e) (omega arith)
+  | inr d ↦ let u = rw (ne_eqb m x (λ e. d (sym e))) at h in rw (ne_eqb x m d) (omega (arith, count_of m xs u))
 ]

@@ -2,17 +2,17 @@
 use Rattle.std.proofs.Common.{arith, ◌≡◌, ◌≢◌, ◌<◌, ◌≤◌, ◌+◌, ◌-◌, ◌%◌, ℕ, Bool, true, false, List, [], ◌∷◌, sym, subst, ◌∙◌, ap, refl, Option, Some, None, inl, inr}
 use Rattle.std.specs.Prelude.{◌==◌, nat_lt, nat_le, IsTrue, IfSome, ◌↔◌, if◌then◌else◌}
 use Rattle.std.specs.List.{list_any, list_all, find}
-use Rattle.cache_door.proofs.Places.{is_same}
-use Rattle.std.proofs.lemmas.Bool.{cases_Bool, cases_lt}
+use Rattle.std.proofs.lemmas.Bool.{cases_Bool, cases_lt, eqb-true}
 use Rattle.std.proofs.lemmas.Bool.Decides.{nat_tests}
 use Rattle.byte_text.specs.Counts.{Rose}
 use Rattle.sparse_tracker.specs.declared.gaps.OpenGap.{OpenGap}
 use Rattle.sparse_tracker.specs.declared.tickets.Ticket.{Ticket}
 use Rattle.sparse_tracker.specs.declared.status.Status.TheVariants as status
-use Rattle.sparse_tracker.specs.ByteStates.{ByteState, absent, pending, present, Tracker, gap_of, ticket_of, is_absent, is_present, status_of, progress, fail, leave, least_unused, numbers, ids, with_ticket, open_gap, open_gap_at}
+use Rattle.sparse_tracker.specs.ByteStates.{ByteState, Tracker, gap_of, ticket_of, is_absent, is_present, status_of, progress, fail, leave, least_unused, numbers, ids, with_ticket, open_gap, open_gap_at}
 use Rattle.sparse_tracker.specs.Weights.{TicketWeights, GapWeights}
+use Rattle.sparse_tracker.proofs.Looks.{lacks_some}
 use Rattle.region_cell.specs.Cells as cells
-use Rattle.region_cell.specs.Cells.{CellView, FrameMetadata, FrameStays, Faulted, IsGood, with_frame, with_region, Region, claim_run}
+use Rattle.region_cell.specs.Cells.{CellView, FrameStays, IsGood, Region, claim_run}
 use Rattle.cache_door.specs.declared.hold.Hold.{Hold}
 use Rattle.region_ranges.specs.declared.ranges.ByteRange.{ByteRange}
 use Rattle.cache_door.specs.declared.answers.Want.{Want}
@@ -102,17 +102,11 @@ changes_left k w h at p even some-hold = record {
 
 -- ---- the ticket's status
 
-not_all : (ls : List ByteState) → list_any is_absent ls ≡ true → list_all is_present ls ≡ false
-not_all [] e = absurd (cc)
-not_all (absent ∷ ls) e = refl
-not_all (pending g ∷ ls) e = refl
-not_all (present ∷ ls) e = not_all ls e
-
 pub failed_lacks : (ls : List ByteState) (m : Bool) → status_of ls m ≢ status.Open → (status_of ls m ≡ status.Failed) ↔ IsTrue (list_any is_absent ls)
 failed_lacks ls m n = elim (cases_Bool (list_any is_absent ls)) [
   | inl t ↦ elim (cases_Bool m) [
-    | inl u ↦ rw (not_all ls t, t, u) ((λ e. refl), (λ e. refl))
-    | inr u ↦ let k = rw (not_all ls t, t, u) at n in absurd (k refl)
+    | inl u ↦ rw (lacks_some ls t, t, u) ((λ e. refl), (λ e. refl))
+    | inr u ↦ let k = rw (lacks_some ls t, t, u) at n in absurd (k refl)
   ]
   | inr t ↦ rw t (elim (cases_Bool (list_all is_present ls)) [
     | inl u ↦ rw u ((λ e. absurd (cc)), (λ e. absurd (cc)))
@@ -142,7 +136,7 @@ gap_closed h o e = ap (λ (q : OpenGap). let n : Hold = record h { gap = q } in 
 pub ticket_number : (n : ℕ) (j : Ticket) (ks : List Ticket) → find (λ k. k.number == n) ks ≡ Some j → j.number ≡ n
 ticket_number n j [] e = absurd (cc)
 ticket_number n j (k ∷ ks) e = elim (cases_Bool (k.number == n)) [
-  | inl t ↦ let u : Some k ≡ Some j = rw t at e in let i : k ≡ j = cc in ap (λ (q : Ticket). q.number) (sym i) ∙ is_same k.number n t
+  | inl t ↦ let u : Some k ≡ Some j = rw t at e in let i : k ≡ j = cc in ap (λ (q : Ticket). q.number) (sym i) ∙ eqb-true k.number n t
   | inr t ↦ let u = rw t at e in ticket_number n j ks u
 ]
 

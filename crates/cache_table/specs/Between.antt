@@ -1,5 +1,5 @@
 -- What the rule of the table says of the cache between two steps, while nobody has the cache's turn.
-use Rattle.std.specs.Prelude.{◌≡◌, ℕ, ◌+◌, ◌%◌, ◌<◌, ◌≤◌, Bool, List, length, slice_index}
+use Rattle.std.specs.Prelude.{◌≡◌, ℕ, ◌%◌, ◌<◌, ◌≤◌, Bool, List, length, slice_index}
 use mathlib.Core.Option.{some}
 use lib.ListN.{get_elem?}
 use Rattle.atomic_table.specs.Table.{State}
@@ -9,7 +9,7 @@ use Rattle.cache_policy.specs.Kept as policies
 use Rattle.region_cell.specs.Cells.{CellView}
 use Rattle.region_cell.specs.Cells as cells
 use Rattle.cache_table.specs.Abouts.{About}
-use Rattle.cache_table.specs.Rule.{Ruled, at_of, tag_held, tag_of, holds_of, has_hold}
+use Rattle.cache_table.specs.Rule.{at_of, tag_held, tag_of, holds_of, has_hold}
 use Rattle.cache_table.specs.declared.view.View.{View}
 use Rattle.cache_table.specs.declared.home.Home.{Home}
 use Rattle.cache_table.specs.declared.home.Home.TheVariants.{Policy, Cell}

@@ -1,5 +1,5 @@
 -- What clauses see of one pass's door, and what every call on it keeps.
-use Rattle.std.specs.Prelude.{◌≡◌, ◌≤◌, ℕ, IsTrue, Option, Some, None}
+use Rattle.std.specs.Prelude.{◌≡◌, ◌≤◌, IsTrue, Option, Some, None}
 use Rattle.std.proofs.Common.{refl, ◌∙◌, ap, sym, subst}
 use Rattle.std.proofs.Math.Nat.{le_refl, le_trans}
 use Rattle.cache_door.specs.Machine.{State}

@@ -1,5 +1,5 @@
 -- What an entry tells: which region it takes, what it makes of the policy, and why it finds no room.
-use Rattle.std.specs.Prelude.{◌≡◌, ◌⊎◌, ℕ, ◌+◌, ◌<◌, ◌≤◌, ◌==◌, ◌&&◌, not, Bool, true, false, List, [], ◌∷◌, ◌++◌, take, drop, slice_get, Option, Some, None, IsSome, ◌≢◌, if◌then◌else◌}
+use Rattle.std.specs.Prelude.{◌≡◌, ◌⊎◌, ℕ, ◌+◌, ◌<◌, ◌≤◌, ◌==◌, ◌&&◌, not, Bool, true, false, List, [], take, slice_get, Option, Some, None, IsSome, ◌≢◌, if◌then◌else◌}
 use Rattle.std.specs.List.{list_any}
 use Rattle.region_ranges.specs.Keys.{tag_of as key_tag}
 use Rattle.region_ranges.specs.declared.ranges.ByteRange.{ByteRange}

@@ -7,7 +7,7 @@ drop_nil : (n : ℕ) → drop {A = ℕ} n [] ≡ []
 drop_nil zero = refl
 drop_nil (suc n) = refl
 
-zero_add : (b : ℕ) → 0 + b ≡ b
+pub zero_add : (b : ℕ) → 0 + b ≡ b
 zero_add b = omega arith
 
 pub drop_drop : (a b : ℕ) (xs : List ℕ) → drop b (drop a xs) ≡ drop (a + b) xs

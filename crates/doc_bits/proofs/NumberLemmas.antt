@@ -6,6 +6,7 @@ use Rattle.std.proofs.lemmas.Bool.{cases_lt, le-leb, lt-leb}
 use Rattle.std.proofs.lemmas.Nat.{mod-pow-add, mod_below, pow_pos}
 use Rattle.std.proofs.lemmas.Nat.Bits.{shr_and_one}
 use Rattle.std.proofs.lemmas.Simd.{bit_mask_l}
+use Rattle.std.proofs.Math.Bool.{or-true, and-true, and-false, or-false}
 use Rattle.doc_bits.specs.Counts.{counted}
 use Rattle.doc_bits.specs.Places.{and_not, either_not_both}
 use Rattle.doc_bits.specs.Planes.{number}
@@ -59,21 +60,6 @@ added_up q n old false true room sum = omega arith
 added_up q n old false false room sum = omega arith
 
 -- ---- one digit of a comparison
-and_true : (v : Bool) → (v && true) ≡ v
-and_true true = refl
-and_true false = refl
-
-and_false : (v : Bool) → (v && false) ≡ false
-and_false true = refl
-and_false false = refl
-
-or_true : (v : Bool) → (v || true) ≡ true
-or_true true = refl
-or_true false = refl
-
-or_false : (v : Bool) → (v || false) ≡ v
-or_false true = refl
-or_false false = refl
 
 le_of_both : (q a x : ℕ) → nat_le (1 * q + a) (1 * q + x) ≡ nat_le a x
 le_of_both q a x = elim (cases_lt x a) [
@@ -83,10 +69,10 @@ le_of_both q a x = elim (cases_lt x a) [
 
 compared : (q a x : ℕ) (b d : Bool) → a < q → x < q
     → nat_le (cond b 1 0 * q + a) (cond d 1 0 * q + x) ≡ cond b ◌&&◌ ◌||◌ (nat_le a x) d
-compared q a x true true low small = le_of_both q a x ∙ sym (and_true (nat_le a x))
-compared q a x true false low small = lt-leb (1 * q + a) (0 * q + x) (omega arith) ∙ sym (and_false (nat_le a x))
-compared q a x false true low small = le-leb (0 * q + a) (1 * q + x) (omega arith) ∙ sym (or_true (nat_le a x))
-compared q a x false false low small = ap₂ nat_le (omega arith) (omega arith) ∙ sym (or_false (nat_le a x))
+compared q a x true true low small = le_of_both q a x ∙ sym (and-true (nat_le a x))
+compared q a x true false low small = lt-leb (1 * q + a) (0 * q + x) (omega arith) ∙ sym (and-false (nat_le a x))
+compared q a x false true low small = le-leb (0 * q + a) (1 * q + x) (omega arith) ∙ sym (or-true (nat_le a x))
+compared q a x false false low small = ap₂ nat_le (omega arith) (omega arith) ∙ sym (or-false (nat_le a x))
 
 -- the digits below p and digit p
 one_more : (n p : ℕ) → n % 2 ^ (p + 1) ≡ n / 2 ^ p % 2 * 2 ^ p + n % 2 ^ p

@@ -2,16 +2,9 @@
 use Rattle.std.proofs.Common.{arith, ◌≡◌, ◌<◌, ◌≤◌, ◌+◌, ℕ, zero, suc, true, false, List, [], ◌∷◌, ◌++◌, sym, ◌∙◌, ap, inl, inr, refl, length, Some, None, replicate}
 use Rattle.std.specs.Prelude.{cond, not, ◌==◌}
 use Rattle.std.specs.List.{position_from}
-use Rattle.std.proofs.lemmas.Bool.{cases_eq, cases_Bool}
-use Rattle.std.proofs.lemmas.Bool.Decides.{nat_tests}
+use Rattle.std.proofs.lemmas.Bool.{cases_eq, cases_Bool, eq-eqb, ne_eqb}
 use Rattle.std.proofs.lemmas.List.Elements.{filter-append}
 use Rattle.freq_lists.specs.Lists.{without, unlink, push_back, times, times_in, next, behind, is_in, list_at}
-
-pub same_is : (a b : ℕ) → a ≡ b → (a == b) ≡ true
-same_is a b e = grind (arith, nat_tests)
-
-pub other_is : (a b : ℕ) → ¬ (a ≡ b) → (a == b) ≡ false
-other_is a b e = grind (arith, nat_tests)
 
 pub times_append : (n : ℕ) (xs ys : List ℕ) → times_in n (xs ++ ys) ≡ times_in n xs + times_in n ys
 times_append n [] ys = omega arith
@@ -121,8 +114,8 @@ times_unlink n (l ∷ ls) = rw (times_without n l, times_unlink n ls) refl
 pub without_other : (m n : ℕ) (l : List ℕ) → ¬ (n ≡ m) → times_in m (without n l) ≡ times_in m l
 without_other m n [] d = refl
 without_other m n (x ∷ l) d = elim (cases_eq x n) [
-  | inl e ↦ rw (same_is x n e, other_is x m (λ f. d (sym e ∙ f))) (omega (arith, without_other m n l d))
-  | inr e ↦ rw (other_is x n e) (omega (arith, without_other m n l d))
+  | inl e ↦ rw (eq-eqb x n e, ne_eqb x m (λ f. d (sym e ∙ f))) (omega (arith, without_other m n l d))
+  | inr e ↦ rw (ne_eqb x n e) (omega (arith, without_other m n l d))
 ]
 
 pub unlink_other_times : (m n : ℕ) (ls : List (List ℕ)) → ¬ (n ≡ m) → times m (unlink n ls) ≡ times m ls

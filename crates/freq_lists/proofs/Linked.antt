@@ -2,12 +2,12 @@
 use Rattle.std.proofs.Common.{arith, ◌≡◌, ◌≢◌, ◌<◌, ◌≤◌, ◌+◌, ℕ, zero, suc, List, [], ◌∷◌, ◌++◌, sym, ◌∙◌, ap, inl, inr, refl, length, set, Option, Some, None}
 use Rattle.std.specs.Prelude.{slice_get, ◌⊎◌}
 use Rattle.std.proofs.lemmas.List.{length-set}
-use Rattle.std.proofs.lemmas.Bool.{cases_eq}
+use Rattle.std.proofs.lemmas.Bool.{cases_eq, eq-eqb, ne_eqb}
 use Rattle.freq_lists.specs.declared.links.Node.{Node}
 use Rattle.freq_lists.specs.declared.links.Ends.{Ends}
 use Rattle.freq_lists.specs.Lists.{push_back, unlink, without, times, times_in, behind, list_at, head}
 use Rattle.freq_lists.specs.Links.{IsLinked, ahead, last_of, with_next, with_previous, with_first, with_last}
-use Rattle.freq_lists.proofs.Counts.{same_is, other_is, times_append, times_push, length_push, length_unlink, at_same, at_other, times_without, without_other, times_unlink, unlink_other_times}
+use Rattle.freq_lists.proofs.Counts.{times_append, times_push, length_push, length_unlink, at_same, at_other, times_without, without_other, times_unlink, unlink_other_times}
 use Rattle.freq_lists.proofs.Changes.{length-change, changed, unchanged, put, put_other}
 use Rattle.freq_lists.proofs.Beside.{behind_in, ahead_in, last_in, without_none, pushed_behind, pushed_ahead, last_pushed, ahead_kept, last_behind, behind_kept, behind_joined, behind_same, ahead_joined, ahead_same, head_joined, head_same, last_joined, last_same}
 
@@ -130,7 +130,7 @@ module _ (ns : List Node) (es : List Ends) (ls : List (List ℕ)) (is : IsLinked
           ∙ sym (same_node _ _ _ _ (Some k) (pushed_ahead n None (list_at k ls) (nowhere k)) (pushed_behind n (list_at k ls) (nowhere k)))
           )
       | inr d ↦
-          let t = rw (other_is n m d) at (times_append m (list_at k ls) (n ∷ [])) in
+          let t = rw (ne_eqb n m d) at (times_append m (list_at k ls) (n ∷ [])) in
           let some_old : 0 < times_in m (list_at k ls) = omega (arith, t, some) in
           let old = put_other n m (node (last_of None (list_at k ls)) None (Some k)) ns d ∙ is.listed k m some_old in
           elim (some_or_not (last_of None (list_at k ls)) m) [
@@ -161,12 +161,12 @@ module _ (ns : List Node) (es : List Ends) (ls : List (List ℕ)) (is : IsLinked
       count = length_push k n ls ∙ is.count ∙ sym ends_count;
       few = (omega (arith, nodes_count, is.few.0), omega (arith, ends_count, is.few.1));
       once = λ m. elim (cases_eq n m) [
-        | inl e ↦ let t = rw (same_is n m e) at (times_push m k n ls within) in let z = rw e at free in omega (arith, t, z)
-        | inr d ↦ let t = rw (other_is n m d) at (times_push m k n ls within) in omega (arith, t, is.once m)
+        | inl e ↦ let t = rw (eq-eqb n m e) at (times_push m k n ls within) in let z = rw e at free in omega (arith, t, z)
+        | inr d ↦ let t = rw (ne_eqb n m d) at (times_push m k n ls within) in omega (arith, t, is.once m)
       ];
       range = λ m some. elim (cases_eq n m) [
         | inl e ↦ omega (arith, e, range, nodes_count)
-        | inr d ↦ let t = rw (other_is n m d) at (times_push m k n ls within) in omega (arith, is.range m (omega (arith, t, some)), nodes_count)
+        | inr d ↦ let t = rw (ne_eqb n m d) at (times_push m k n ls within) in omega (arith, is.range m (omega (arith, t, some)), nodes_count)
       ];
       listed = λ j m some. elim (cases_eq j k) [
         | inl e ↦
@@ -179,9 +179,9 @@ module _ (ns : List Node) (es : List Ends) (ls : List (List ℕ)) (is : IsLinked
             rw o (push_kept m other (apart j m d s) ∙ is.listed j m s)
       ];
       free = λ m h none. elim (cases_eq n m) [
-        | inl e ↦ absurd (let t = rw (same_is n m e) at (times_push m k n ls within) in omega (arith, t, none))
+        | inl e ↦ absurd (let t = rw (eq-eqb n m e) at (times_push m k n ls within) in omega (arith, t, none))
         | inr d ↦
-            let t = rw (other_is n m d) at (times_push m k n ls within) in
+            let t = rw (ne_eqb n m d) at (times_push m k n ls within) in
             let z : times m ls ≡ 0 = omega (arith, t, none) in
             push_kept m d (omega (arith, z, most_at m k ls)) ∙ is.free m (omega (arith, h, nodes_count)) z
       ];

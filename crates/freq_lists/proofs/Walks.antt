@@ -2,20 +2,20 @@
 use Rattle.std.proofs.Common.{arith, ◌≡◌, ◌<◌, ◌≤◌, ℕ, zero, suc, List, [], ◌∷◌, ◌++◌, sym, subst, ◌∙◌, ap, inl, inr, refl, length, Some, None, append_assoc, replicate}
 use Rattle.std.specs.Prelude.{map, slice_get}
 use Rattle.std.proofs.lemmas.List.{length-map, length-replicate}
-use Rattle.std.proofs.lemmas.Bool.{cases_eq}
+use Rattle.std.proofs.lemmas.Bool.{cases_eq, eq-eqb, ne_eqb}
 use Rattle.freq_lists.specs.declared.links.Node.{Node}
 use Rattle.freq_lists.specs.declared.links.Ends.{Ends}
 use Rattle.freq_lists.specs.Lists.{times_in, behind, list_at, head}
 use Rattle.freq_lists.specs.Links.{IsLinked, walk, walked, next_of}
-use Rattle.freq_lists.proofs.Counts.{same_is, other_is, times_append, times_empty, at_empty}
+use Rattle.freq_lists.proofs.Counts.{times_append, times_empty, at_empty}
 use Rattle.freq_lists.proofs.Room.{room}
 use Rattle.freq_lists.proofs.Linked.{most_at}
 
 behind_at : (n : ℕ) (xs ys : List ℕ) → times_in n xs ≡ 0 → behind n (xs ++ n ∷ ys) ≡ head ys
-behind_at n [] ys h = rw (same_is n n refl) refl
+behind_at n [] ys h = rw (eq-eqb n n refl) refl
 behind_at n (x ∷ xs) ys h = elim (cases_eq x n) [
-  | inl e ↦ absurd (let t = rw (same_is x n e) at h in omega (arith, t))
-  | inr d ↦ let t = rw (other_is x n d) at h in rw (other_is x n d) (behind_at n xs ys (omega (arith, t)))
+  | inl e ↦ absurd (let t = rw (eq-eqb x n e) at h in omega (arith, t))
+  | inr d ↦ let t = rw (ne_eqb x n d) at h in rw (ne_eqb x n d) (behind_at n xs ys (omega (arith, t)))
 ]
 
 pub past : (j : ℕ) (ls : List (List ℕ)) → length ls ≤ j → list_at j ls ≡ []
@@ -47,7 +47,7 @@ module _ (ns : List Node) (es : List Ends) (ls : List (List ℕ)) (is : IsLinked
   walk_is k zero xs (y ∷ ys) e h = absurd (omega arith)
   walk_is k (suc most) xs (y ∷ ys) e h =
       let here = times_append y xs (y ∷ ys) in
-      let one = rw (same_is y y refl) at here in
+      let one = rw (eq-eqb y y refl) at here in
       let once = rw e at (most_at y k ls) in
       let some : 0 < times_in y (list_at k ls) = rw e (omega (arith, one)) in
       let none : times_in y xs ≡ 0 = omega (arith, one, once, is.once y) in

@@ -2,12 +2,12 @@
 use Rattle.std.proofs.Common.{arith, ◌≡◌, ◌≢◌, ◌<◌, ◌≤◌, ◌+◌, ℕ, zero, suc, List, sym, ◌∙◌, ap, inl, inr, refl, length, set, Option, Some, None, replicate}
 use Rattle.std.specs.Prelude.{◌==◌, ◌⊎◌, IsSome, if◌then◌else◌}
 use Rattle.std.proofs.lemmas.List.{length-set}
-use Rattle.std.proofs.lemmas.Bool.{cases_lt, cases_eq}
+use Rattle.std.proofs.lemmas.Bool.{cases_lt, cases_eq, eq-eqb, ne_eqb}
 use Rattle.std.proofs.lemmas.Nat.{mod_below}
 use Rattle.key_table.specs.declared.places.Entry.{Entry}
 use Rattle.key_table.specs.Slots.{steps, first_place, entry_at, keys_in, region_in, AreApart, AreReached}
 use Rattle.key_table.proofs.Rounds.{steps_same}
-use Rattle.key_table.proofs.Entries.{same_is, other_is, put, put_other, within, put_len, held, unheld, holds, lacks}
+use Rattle.key_table.proofs.Entries.{put, put_other, within, put_len, held, unheld, holds, lacks}
 use Rattle.key_table.proofs.Gaps.{freed_apart, some_none, is_some_of, none_some}
 
 -- where a walk ended: at a place with the key, or else at a free one that only places with other keys come before
@@ -115,8 +115,8 @@ module _ (key place : ℕ) (xs : List (Option Entry)) (apart : AreApart xs) (rea
 
     pub insert_regions : (k : ℕ) → region_in k (set xs place (Some (record { key = key; region = region }))) ≡ (if k == key then Some region else region_in k xs)
     insert_regions k = elim (cases_eq k key) [
-      | inl i ↦ rw (same_is k key i, i) (holds place (record { key = key; region = region }) _ insert_apart at_place)
-      | inr d ↦ rw (other_is k key d) (by d (region_in k xs) refl)
+      | inl i ↦ rw (eq-eqb k key i, i) (holds place (record { key = key; region = region }) _ insert_apart at_place)
+      | inr d ↦ rw (ne_eqb k key d) (by d (region_in k xs) refl)
     ]
       where
         by : ¬ (k ≡ key) → (o : Option ℕ) → region_in k xs ≡ o → region_in k (set xs place (Some (record { key = key; region = region }))) ≡ region_in k xs
@@ -142,8 +142,8 @@ module _ (key place : ℕ) (xs : List (Option Entry)) (apart : AreApart xs) (rea
 
     pub remove_regions : (k : ℕ) → region_in k (set xs place None) ≡ (if k == key then None else region_in k xs)
     remove_regions k = elim (cases_eq k key) [
-      | inl i ↦ rw (same_is k key i) (lacks k _ (λ s x at j. (let w = was s x at in w.0 (apart s place x e w.1 here (j ∙ i ∙ sym (is.same e here))))))
-      | inr d ↦ rw (other_is k key d) (by d (region_in k xs) refl)
+      | inl i ↦ rw (eq-eqb k key i) (lacks k _ (λ s x at j. (let w = was s x at in w.0 (apart s place x e w.1 here (j ∙ i ∙ sym (is.same e here))))))
+      | inr d ↦ rw (ne_eqb k key d) (by d (region_in k xs) refl)
     ]
       where
         by : ¬ (k ≡ key) → (o : Option ℕ) → region_in k xs ≡ o → region_in k (set xs place None) ≡ region_in k xs

@@ -1,19 +1,9 @@
 -- The entries of a table: writes at one place, and what a key's region is.
-use Rattle.std.proofs.Common.{arith, ◌≡◌, ◌≢◌, ◌<◌, ◌+◌, ℕ, zero, suc, true, false, List, [], ◌∷◌, sym, ◌∙◌, ap, inl, inr, refl, length, set, get_or, Option, Some, None}
+use Rattle.std.proofs.Common.{arith, ◌≡◌, ◌≢◌, ◌<◌, ◌+◌, ℕ, zero, suc, List, [], ◌∷◌, sym, ◌∙◌, ap, inl, inr, refl, length, set, get_or, Option, Some, None}
 use Rattle.std.specs.Prelude.{◌==◌, IsSome}
-use Rattle.std.proofs.lemmas.Bool.{cases_Bool}
-use Rattle.std.proofs.lemmas.Bool.Decides.{nat_tests}
+use Rattle.std.proofs.lemmas.Bool.{cases_Bool, eq-eqb, eqb-true}
 use Rattle.key_table.specs.declared.places.Entry.{Entry}
 use Rattle.key_table.specs.Slots.{region_in, keys_in, entry_at, AreApart}
-
-pub same_is : (a b : ℕ) → a ≡ b → (a == b) ≡ true
-same_is a b e = grind (arith, nat_tests)
-
-pub other_is : (a b : ℕ) → ¬ (a ≡ b) → (a == b) ≡ false
-other_is a b e = grind (arith, nat_tests)
-
-pub is_same : (a b : ℕ) → (a == b) ≡ true → a ≡ b
-is_same a b e = grind (arith, nat_tests)
 
 -- ---- one place
 
@@ -66,7 +56,7 @@ pub held : (key r : ℕ) (xs : List (Option Entry)) → region_in key xs ≡ Som
 held key r [] h = absurd (cc)
 held key r (None ∷ xs) h = let t = held key r xs h in (suc t.0, t.1, t.2, t.3, t.4)
 held key r (Some g ∷ xs) h = elim (cases_Bool (g.key == key)) [
-  | inl k ↦ let e = rw k at h in (0, g, refl, is_same g.key key k, (let i : g.region ≡ r = cc in i))
+  | inl k ↦ let e = rw k at h in (0, g, refl, eqb-true g.key key k, (let i : g.region ≡ r = cc in i))
   | inr k ↦ let e = rw k at h in let t = held key r xs e in (suc t.0, t.1, t.2, t.3, t.4)
 ]
 
@@ -76,7 +66,7 @@ unheld key zero e (None ∷ xs) h at k = cc
 unheld key (suc s) e (None ∷ xs) h at k = unheld key s e xs h at k
 unheld key zero e (Some g ∷ xs) h at k =
     let i : g ≡ e = cc in
-    let t = same_is g.key key (ap (λ (y : Entry). y.key) i ∙ k) in
+    let t = eq-eqb g.key key (ap (λ (y : Entry). y.key) i ∙ k) in
     let n = rw t at h in cc
 unheld key (suc s) e (Some g ∷ xs) h at k = elim (cases_Bool (g.key == key)) [
   | inl t ↦ let n = rw t at h in cc

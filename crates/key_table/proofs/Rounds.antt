@@ -1,7 +1,7 @@
 -- Steps round the places of a table, and their order as seen from one place.
 use Rattle.std.proofs.Common.{arith, ◌≡◌, ◌≢◌, ◌<◌, ◌≤◌, ◌+◌, ◌-◌, ℕ, suc, true, false, ◌∙◌, inl, inr, refl}
-use Rattle.std.specs.Prelude.{nat_le, nat_lt, ◌⊎◌}
-use Rattle.std.proofs.lemmas.Bool.{cases_lt}
+use Rattle.std.specs.Prelude.{nat_le, ◌⊎◌}
+use Rattle.std.proofs.lemmas.Bool.{cases_lt, lt-ltb, le-ltb}
 use Rattle.std.proofs.lemmas.Bool.Decides.{nat_tests}
 use Rattle.key_table.specs.Slots.{steps, after}
 
@@ -10,12 +10,6 @@ le_is a b h = grind (arith, nat_tests)
 
 le_not : (a b : ℕ) → b < a → nat_le a b ≡ false
 le_not a b h = grind (arith, nat_tests)
-
-lt_is : (a b : ℕ) → a < b → nat_lt a b ≡ true
-lt_is a b h = grind (arith, nat_tests)
-
-lt_not : (a b : ℕ) → b ≤ a → nat_lt a b ≡ false
-lt_not a b h = grind (arith, nat_tests)
 
 module _ (size : ℕ) where
   steps_are : (a b : ℕ) → ((a ≤ b) × (steps size a b ≡ b - a)) ⊎ ((b < a) × (steps size a b ≡ b + (size - a)))
@@ -26,8 +20,8 @@ module _ (size : ℕ) where
 
   after_is : (a : ℕ) → ((a + 1 < size) × (after size a ≡ a + 1)) ⊎ ((size ≤ a + 1) × (after size a ≡ 0))
   after_is a = elim (cases_lt (a + 1) size) [
-    | inl h ↦ inl (h, rw (lt_is (a + 1) size h) refl)
-    | inr h ↦ inr (h, rw (lt_not (a + 1) size h) refl)
+    | inl h ↦ inl (h, rw (lt-ltb (a + 1) size h) refl)
+    | inr h ↦ inr (h, rw (le-ltb (a + 1) size h) refl)
   ]
 
   pub after_less : (a : ℕ) → a < size → after size a < size

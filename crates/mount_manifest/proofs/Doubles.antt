@@ -6,7 +6,7 @@ use Rattle.std.proofs.lemmas.Bool.{false≢true, cases_lt, or_parts}
 use Rattle.mount_manifest.specs.Manifest.{no_doubles}
 use Rattle.mount_manifest.specs.Sound.{DiffersBy}
 
-front_get : {A : Type 0} (xs ys : List A) (j : ℕ) → j < length xs → slice_get (xs ++ ys) j ≡ slice_get xs j
+pub front_get : {A : Type 0} (xs ys : List A) (j : ℕ) → j < length xs → slice_get (xs ++ ys) j ≡ slice_get xs j
 front_get [] ys j less = absurd (omega arith)
 front_get (x ∷ xs) ys zero less = refl
 front_get (x ∷ xs) ys (suc j) less = front_get xs ys j (omega arith)

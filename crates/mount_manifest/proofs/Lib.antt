@@ -2,7 +2,7 @@ pub mod Json
 mod Digits
 mod Steps
 mod Sound
-mod Doubles
+pub mod Doubles
 mod Placed
 mod Whole
 mod Read

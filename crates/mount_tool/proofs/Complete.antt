@@ -2,8 +2,7 @@
 use Rattle.std.proofs.Common.{◌≡◌, ℕ, ◌+◌, ◌∙◌, ◌<◌, ◌≤◌, mod-lt, max, List, [], ◌∷◌, ◌++◌, length, take, ◌&&◌, Bool, true, false, refl, ap, sym, subst, inl, inr, arith}
 use Rattle.std.specs.Prelude.{◌%◌, ◌==◌, ◌||◌, ◌⊎◌, nat_lt, IsTrue, Option, Some, Result, Ok, Err, if◌then◌else◌}
 use Rattle.std.specs.List.{list_any}
-use Rattle.std.proofs.lemmas.Bool.{ltb-false}
-use Rattle.std.proofs.lemmas.Bool.Decides.{nat_tests}
+use Rattle.std.proofs.lemmas.Bool.{ltb-false, or_from, or_parts, eq-eqb}
 use Rattle.std.proofs.lemmas.List.{append_assoc, append-nil, take_all}
 use Rattle.std.proofs.lemmas.List.Folds.{list_any-append}
 use Rattle.byte_text.specs.Counts.{Rose}
@@ -37,18 +36,6 @@ use Rattle.mount_tool.specs.Replies.{run_status}
 use Rattle.mount_tool.specs.Calls.{World, first_source, RunEnding, RunEnds, unread, no_script, no_frame, no_room, ran, shared, CallEnds, IsScriptRun}
 use Rattle.mount_tool.specs.Complete.{Says, mixes, Steady, NoneFailed, PlainBlock, PlainRun, WroteAll, Completeness}
 
-or_left : (a b : Bool) → (a || b) ≡ false → a ≡ false
-or_left true b h = absurd (cc)
-or_left false b h = refl
-
-or_right : (a b : Bool) → (a || b) ≡ false → b ≡ false
-or_right true b h = absurd (cc)
-or_right false b h = h
-
-neither : (a b : Bool) → a ≡ false → b ≡ false → (a || b) ≡ false
-neither true b h k = absurd (cc)
-neither false b h k = k
-
 counted : (q b : Bool) (n : ℕ) → q ≡ true → (if q && b then 1 else 0) + n ≡ 0 → (b ≡ false) × (n ≡ 0)
 counted true true n e h = absurd (omega (arith, h))
 counted true false n e h = (refl, omega (arith, h))
@@ -57,16 +44,13 @@ counted false b n e h = absurd (cc)
 rest_none : (c n : ℕ) → c + n ≡ 0 → n ≡ 0
 rest_none c n h = omega (arith, h)
 
-same_number : (n : ℕ) → (n == n) ≡ true
-same_number n = grind (arith, nat_tests)
-
 -- ---- one line
 
 -- the lines before a line are of its block
 fewer : (before rest : List Line) (c : Command) → may_be_gone (before ++ rest) c ≡ false → may_be_gone before c ≡ false
-fewer before rest (Search name size text) h = or_left (list_any (λ (l : Line). is_unmount_of name l.command) before) (list_any (λ (l : Line). is_unmount_of name l.command) rest) (sym (list_any-append (λ (l : Line). is_unmount_of name l.command) before rest) ∙ h)
-fewer before rest (Fetch name segment doc) h = or_left (list_any (λ (l : Line). is_unmount_of name l.command) before) (list_any (λ (l : Line). is_unmount_of name l.command) rest) (sym (list_any-append (λ (l : Line). is_unmount_of name l.command) before rest) ∙ h)
-fewer before rest (Read name file at len) h = or_left (list_any (λ (l : Line). is_unmount_of name l.command) before) (list_any (λ (l : Line). is_unmount_of name l.command) rest) (sym (list_any-append (λ (l : Line). is_unmount_of name l.command) before rest) ∙ h)
+fewer before rest (Search name size text) h = (or_parts (list_any (λ (l : Line). is_unmount_of name l.command) before) (list_any (λ (l : Line). is_unmount_of name l.command) rest) (sym (list_any-append (λ (l : Line). is_unmount_of name l.command) before rest) ∙ h)).0
+fewer before rest (Fetch name segment doc) h = (or_parts (list_any (λ (l : Line). is_unmount_of name l.command) before) (list_any (λ (l : Line). is_unmount_of name l.command) rest) (sym (list_any-append (λ (l : Line). is_unmount_of name l.command) before rest) ∙ h)).0
+fewer before rest (Read name file at len) h = (or_parts (list_any (λ (l : Line). is_unmount_of name l.command) before) (list_any (λ (l : Line). is_unmount_of name l.command) rest) (sym (list_any-append (λ (l : Line). is_unmount_of name l.command) before rest) ∙ h)).0
 fewer before rest c h = refl
 
 plain_reply : (s : RunSetting) (m : Mounts) (near : List Line) (c : Command) (x : Reply) → is_fault x ≡ false → is_memory x ≡ false → may_be_gone near c ≡ false → Allowed s m near c x → IsPlain s m c x
@@ -119,7 +103,7 @@ module _ (s : RunSetting) (some : 0 < s.workers) where
   NoFaults k xs = (i : ℕ) → i < s.workers → faults_of s.workers i k xs ≡ 0
 
   first_none : (k : ℕ) (x : Reply) (xs : List Reply) → NoFaults k (x ∷ xs) → is_fault x ≡ false
-  first_none k x xs f = (counted (k % s.workers == k % s.workers) (is_fault x) (faults_of s.workers (k % s.workers) (k + 1) xs) (same_number (k % s.workers)) (f (k % s.workers) (mod-lt k some))).0
+  first_none k x xs f = (counted (k % s.workers == k % s.workers) (is_fault x) (faults_of s.workers (k % s.workers) (k + 1) xs) (eq-eqb (k % s.workers) (k % s.workers) refl) (f (k % s.workers) (mod-lt k some))).0
 
   others_none : (k : ℕ) (x : Reply) (xs : List Reply) → NoFaults k (x ∷ xs) → NoFaults (k + 1) xs
   others_none k x xs f i h = rest_none (if (k % s.workers == i) && is_fault x then 1 else 0) (faults_of s.workers i (k + 1) xs) (f i h)
@@ -138,10 +122,10 @@ module _ (s : RunSetting) (some : 0 < s.workers) where
   plain_from m block before [] (x ∷ xs) k e g f n h = absurd h
   plain_from m block before (l ∷ ls) [] k e g f n h = absurd h
   plain_from m block before (l ∷ ls) (x ∷ xs) k e g f n h =
-      let here : may_be_gone block l.command ≡ false = or_left (may_be_gone block l.command) (list_any (λ (l : Line). may_be_gone block l.command) ls) g in (
-        plain_reply s m (near_lines s block before) l.command x (first_none k x xs f) (or_left (is_memory x) (list_any is_memory xs) n) (near_none block before (l ∷ ls) l.command e here) h.0,
-        plain_from m block (before ++ l ∷ []) ls xs (k + 1) (append_assoc before (l ∷ []) ls ∙ e) (or_right (may_be_gone block l.command) (list_any (λ (l : Line). may_be_gone block l.command) ls) g)
-            (others_none k x xs f) (or_right (is_memory x) (list_any is_memory xs) n) h.1,
+      let here : may_be_gone block l.command ≡ false = (or_parts (may_be_gone block l.command) (list_any (λ (l : Line). may_be_gone block l.command) ls) g).0 in (
+        plain_reply s m (near_lines s block before) l.command x (first_none k x xs f) ((or_parts (is_memory x) (list_any is_memory xs) n).0) (near_none block before (l ∷ ls) l.command e here) h.0,
+        plain_from m block (before ++ l ∷ []) ls xs (k + 1) (append_assoc before (l ∷ []) ls ∙ e) ((or_parts (may_be_gone block l.command) (list_any (λ (l : Line). may_be_gone block l.command) ls) g).1)
+            (others_none k x xs f) ((or_parts (is_memory x) (list_any is_memory xs) n).1) h.1,
       )
 
   unmarked_from : (m : Mounts) (block before ls : List Line) (xs : List Reply) (k : ℕ) → before ++ ls ≡ block → list_any (λ (l : Line). may_be_gone block l.command) ls ≡ false → NoFaults k xs
@@ -150,10 +134,10 @@ module _ (s : RunSetting) (some : 0 < s.workers) where
   unmarked_from m block before [] (x ∷ xs) k e g f h = absurd h
   unmarked_from m block before (l ∷ ls) [] k e g f h = refl
   unmarked_from m block before (l ∷ ls) (x ∷ xs) k e g f h =
-      let here : may_be_gone block l.command ≡ false = or_left (may_be_gone block l.command) (list_any (λ (l : Line). may_be_gone block l.command) ls) g in
-      neither (is_mark x) (list_any is_mark xs)
+      let here : may_be_gone block l.command ≡ false = (or_parts (may_be_gone block l.command) (list_any (λ (l : Line). may_be_gone block l.command) ls) g).0 in
+      or_from (is_mark x) (list_any is_mark xs)
       (unmarked_reply s m (near_lines s block before) l.command x (first_none k x xs f) (near_none block before (l ∷ ls) l.command e here) h.0)
-      (unmarked_from m block (before ++ l ∷ []) ls xs (k + 1) (append_assoc before (l ∷ []) ls ∙ e) (or_right (may_be_gone block l.command) (list_any (λ (l : Line). may_be_gone block l.command) ls) g) (others_none k x xs f) h.1)
+      (unmarked_from m block (before ++ l ∷ []) ls xs (k + 1) (append_assoc before (l ∷ []) ls ∙ e) ((or_parts (may_be_gone block l.command) (list_any (λ (l : Line). may_be_gone block l.command) ls) g).1) (others_none k x xs f) h.1)
 
   abbrev NoRunFaults : List (List Reply) → Type 0
   NoRunFaults xss = (i : ℕ) → i < s.workers → run_faults s.workers i xss ≡ 0
@@ -169,8 +153,8 @@ module _ (s : RunSetting) (some : 0 < s.workers) where
   plain_run m [] (xs ∷ xss) g f n h = absurd h
   plain_run m (b ∷ bs) [] g f n h = absurd h
   plain_run m (b ∷ bs) (xs ∷ xss) g f n h = (
-    plain_from m b [] b xs 0 refl (or_left (mixes b) (list_any mixes bs) g) (block_none xs xss f) (or_left (list_any is_memory xs) (some_reply is_memory xss) n) h.0,
-    plain_run (after_block s.blobs b xs m) bs xss (or_right (mixes b) (list_any mixes bs) g) (blocks_none xs xss f) (or_right (list_any is_memory xs) (some_reply is_memory xss) n) h.1,
+    plain_from m b [] b xs 0 refl ((or_parts (mixes b) (list_any mixes bs) g).0) (block_none xs xss f) ((or_parts (list_any is_memory xs) (some_reply is_memory xss) n).0) h.0,
+    plain_run (after_block s.blobs b xs m) bs xss ((or_parts (mixes b) (list_any mixes bs) g).1) (blocks_none xs xss f) ((or_parts (list_any is_memory xs) (some_reply is_memory xss) n).1) h.1,
   )
 
   unmarked_run : (m : Mounts) (bs : List (List Line)) (xss : List (List Reply)) → list_any mixes bs ≡ false → NoRunFaults xss → AllowedRun s m bs xss → some_reply is_mark xss ≡ false
@@ -178,9 +162,9 @@ module _ (s : RunSetting) (some : 0 < s.workers) where
   unmarked_run m [] (xs ∷ xss) g f h = absurd h
   unmarked_run m (b ∷ bs) [] g f h = refl
   unmarked_run m (b ∷ bs) (xs ∷ xss) g f h =
-      neither (list_any is_mark xs) (some_reply is_mark xss)
-      (unmarked_from m b [] b xs 0 refl (or_left (mixes b) (list_any mixes bs) g) (block_none xs xss f) h.0)
-      (unmarked_run (after_block s.blobs b xs m) bs xss (or_right (mixes b) (list_any mixes bs) g) (blocks_none xs xss f) h.1)
+      or_from (list_any is_mark xs) (some_reply is_mark xss)
+      (unmarked_from m b [] b xs 0 refl ((or_parts (mixes b) (list_any mixes bs) g).0) (block_none xs xss f) h.0)
+      (unmarked_run (after_block s.blobs b xs m) bs xss ((or_parts (mixes b) (list_any mixes bs) g).1) (blocks_none xs xss f) h.1)
 
 -- ---- counts
 

@@ -1,8 +1,8 @@
 -- The command `make`: what is made is few manifests within the limits, and how its run ends.
-use Rattle.std.proofs.Common.{◌≡◌, ℕ, zero, suc, ◌<◌, ◌≤◌, ◌+◌, ◌*◌, ◌&&◌, ◌==◌, take, List, [], ◌∷◌, ◌++◌, length, map, Bool, true, false, refl, ap, subst, ◌∙◌, inl, inr, arith}
-use Rattle.std.specs.Prelude.{filter, nat_lt, nat_le, codes, slice_get, Some, None, Ok, if◌then◌else◌}
+use Rattle.std.proofs.Common.{◌≡◌, ℕ, zero, suc, ◌<◌, ◌≤◌, ◌+◌, ◌*◌, ◌==◌, take, List, [], ◌∷◌, ◌++◌, length, map, Bool, true, false, refl, ap, subst, ◌∙◌, inl, inr, arith}
+use Rattle.std.specs.Prelude.{filter, nat_lt, codes, slice_get, Some, None, Ok, if◌then◌else◌}
 use Rattle.std.specs.Fmt.{decimal}
-use Rattle.std.proofs.lemmas.Bool.{false≢true}
+use Rattle.std.proofs.lemmas.Bool.{and_parts, leb-true}
 use Rattle.std.proofs.lemmas.Bool.Decides.{nat_tests}
 use Rattle.byte_text.specs.Counts.{Rose}
 use Rattle.cache_outside.specs.Listing.{Listing, is_manifest, is_manifest_name, manifests}
@@ -55,32 +55,25 @@ few_manifests seed docs terms blobs is =
 
 -- ---- the limits
 
-both : (a b : Bool) → (a && b) ≡ true → (a ≡ true) × (b ≡ true)
-both true b h = (refl, h)
-both false b h = absurd (false≢true h)
-
 at_least_one : (n : ℕ) → nat_lt 0 n ≡ true → 1 ≤ n
 at_least_one n h = grind (arith, nat_tests)
 
-at_most : (m n : ℕ) → nat_le m n ≡ true → m ≤ n
-at_most m n h = grind (arith, nat_tests)
-
 pub run_limits : (m : MakeSettings) → can_be_made m ≡ true → in_limits m.run ≡ true
-run_limits m is = (both _ _ (both _ _ (both _ _ is).0).0).0
+run_limits m is = (and_parts _ _ (and_parts _ _ (and_parts _ _ is).0).0).0
 
 pub made_limits : (m : MakeSettings) → can_be_made m ≡ true → AreLimits m.docs m.terms
 made_limits m is =
-    let first = both _ _ is in
-    let second = both _ _ first.0 in
-    let third = both _ _ second.0 in
-    let docs = both _ _ third.1 in
-    let terms = both _ _ second.1 in
+    let first = and_parts _ _ is in
+    let second = and_parts _ _ first.0 in
+    let third = and_parts _ _ second.0 in
+    let docs = and_parts _ _ third.1 in
+    let terms = and_parts _ _ second.1 in
     record {
       some_docs = at_least_one m.docs docs.0;
-      few_docs = at_most m.docs 100000 docs.1;
+      few_docs = leb-true m.docs 100000 docs.1;
       some_terms = at_least_one m.terms terms.0;
-      few_terms = at_most m.terms 100000 terms.1;
-      pairs = at_most (m.docs * m.terms) 4000000 first.1;
+      few_terms = leb-true m.terms 100000 terms.1;
+      pairs = leb-true (m.docs * m.terms) 4000000 first.1;
     }
 
 -- ---- copies

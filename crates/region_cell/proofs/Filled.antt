@@ -13,7 +13,8 @@ use Rattle.sparse_tracker.specs.Kept as tracker
 use Rattle.cache_outside.specs.Frames.{put_at, SameOutside}
 use Rattle.blob_parts.specs.Content.{slice_of}
 use Rattle.region_cell.specs.Cells.{Region, len_of, IsFilled, assign, claim, claim_run, progress, fail, leave, region_bytes, file_of, part_of}
-use Rattle.region_cell.proofs.Places.{slot_change, slot_map, slot_replicate, slot_find, get_drop, get_take, get_front, get_back, same_slice, in_from, all_gives, is_present_gives, byte_state_here}
+use Rattle.region_cell.proofs.Places.{slot_change, slot_map, slot_replicate, slot_find, get_drop, get_take, get_back, same_slice, in_from, all_gives, is_present_gives, byte_state_here}
+use Rattle.mount_manifest.proofs.Doubles.{front_get}
 
 module _ (files : ℕ → ℕ → List ℕ) (size : ℕ) where
   pub filled_assign : (tag len : ℕ) (c : Region) (bytes : List ℕ) → IsFilled files size (assign tag len c) bytes
@@ -55,14 +56,14 @@ module _ (at : ℕ) (piece bytes : List ℕ) (h : at ≤ length bytes) where
   pub put_before : (i : ℕ) → i < at → slice_get (put_at at piece bytes) i ≡ slice_get bytes i
   put_before i k =
       let e = put_length at bytes h in
-      get_front (take at bytes ++ piece) (drop (at + length piece) bytes) i (omega (arith, front_length))
-      ∙ get_front (take at bytes) piece i (omega (arith, e))
+      front_get (take at bytes ++ piece) (drop (at + length piece) bytes) i (omega (arith, front_length))
+      ∙ front_get (take at bytes) piece i (omega (arith, e))
       ∙ get_take at bytes i k
 
   pub put_inside : (i : ℕ) → i < length piece → slice_get (put_at at piece bytes) (at + i) ≡ slice_get piece i
   put_inside i k =
       let e = put_length at bytes h in
-      get_front (take at bytes ++ piece) (drop (at + length piece) bytes) (at + i) (omega (arith, front_length))
+      front_get (take at bytes ++ piece) (drop (at + length piece) bytes) (at + i) (omega (arith, front_length))
       ∙ ap (λ (n : ℕ). slice_get (take at bytes ++ piece) (n + i)) (sym e)
       ∙ get_back (take at bytes) piece i
 

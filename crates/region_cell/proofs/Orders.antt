@@ -8,6 +8,7 @@ use Rattle.std.proofs.lemmas.Nat.{div-mul-add}
 use Rattle.std.proofs.lemmas.Option.{slice_get_within}
 use Rattle.region_ranges.specs.declared.ranges.ByteRange.{ByteRange}
 use Rattle.region_ranges.specs.Ranges.{inside, aligned}
+use Rattle.region_ranges.proofs.Walks.{inside_is}
 use Rattle.sparse_tracker.specs.ByteStates.{ByteState, absent, pending, present, is_under, change}
 use Rattle.sparse_tracker.specs.Places.{IsRunRound}
 use Rattle.region_cell.specs.Cells.{InOrder}
@@ -76,9 +77,6 @@ order_progress range g to ls old i j a b l e k h =
     ]
 
 -- ---- claims
-
-pub in_is : (r : ByteRange) (i : ℕ) → r.start ≤ i → i < r.end → inside r i ≡ true
-in_is r i h k = grind (arith, nat_tests)
 
 pub in_gives : (r : ByteRange) (i : ℕ) → inside r i ≡ true → (r.start ≤ i) × (i < r.end)
 in_gives r i h = (grind (arith, nat_tests), grind (arith, nat_tests))
@@ -160,7 +158,7 @@ module _ (range start g at : ℕ) (ls : List ByteState) (run : ByteRange) (some 
         | inl t ↦
             let s = in_gives run i t in
             let r = reaches j (omega (arith, s)) long (sym h ∙ here i s.0 s.1) in
-            let u = in_is run j (omega (arith, s)) r in
+            let u = inside_is run j (omega (arith, s)) r in
             let p : w i x.0 ≡ pending g = rw t refl in
             let q : w j y.0 ≡ pending g = rw u refl in
             inr (sym yj ∙ q ∙ sym p ∙ xi)
@@ -172,7 +170,7 @@ module _ (range start g at : ℕ) (ls : List ByteState) (run : ByteRange) (some 
                   let k : i / range ≡ start / range = h ∙ here j s.0 s.1 in
                   elim (cases_lt i run.start) [
                     | inl c ↦ inl (sym xi ∙ p ∙ before i x.0 c x.1 k)
-                    | inr c ↦ absurd (let v = in_is run i c (omega (arith, s)) in let z : true ≡ false = sym v ∙ t in cc)
+                    | inr c ↦ absurd (let v = inside_is run i c (omega (arith, s)) in let z : true ≡ false = sym v ∙ t in cc)
                   ]
               | inr u ↦
                   let q : w j y.0 ≡ y.0 = rw u refl in

@@ -3,6 +3,7 @@ use Rattle.std.proofs.Common.{arith, ◌≡◌, ◌<◌, ◌≤◌, ◌+◌, ◌
 use Rattle.std.specs.Prelude.{◌⊎◌, ◌==◌, map, find, replicate, slice_get}
 use Rattle.std.specs.List.{list_any, list_all}
 use Rattle.std.proofs.lemmas.Bool.{cases_Bool, cases_lt}
+use Rattle.std.proofs.lemmas.Map.Keys.{any_passes_from_place}
 use Rattle.sparse_tracker.specs.declared.tickets.Ticket.{Ticket}
 use Rattle.sparse_tracker.specs.ByteStates.{ByteState, absent, pending, present, is_absent, is_present, change_from, byte_states_in, without_ticket}
 
@@ -24,11 +25,6 @@ get_take_past zero xs i h = refl
 get_take_past (suc n) [] i h = refl
 get_take_past (suc n) (x ∷ xs) zero h = absurd (omega arith)
 get_take_past (suc n) (x ∷ xs) (suc i) h = get_take_past n xs i (omega arith)
-
-pub get_front : {X : Type 0} (xs ys : List X) (i : ℕ) → i < length xs → slice_get (xs ++ ys) i ≡ slice_get xs i
-get_front [] ys i h = absurd (omega arith)
-get_front (x ∷ xs) ys zero h = refl
-get_front (x ∷ xs) ys (suc i) h = get_front xs ys i (omega arith)
 
 pub get_back : {X : Type 0} (xs ys : List X) (i : ℕ) → slice_get (xs ++ ys) (length xs + i) ≡ slice_get ys i
 get_back [] ys i = let e : 0 + i ≡ i = omega arith in rw e refl
@@ -100,11 +96,6 @@ any_gives p (x ∷ xs) h = elim (cases_Bool (p x)) [
   | inr t ↦ let r = any_gives p xs (rw t at h) in (suc r.0, r.1, r.2, r.3)
 ]
 
-pub any_from : {X : Type 0} (p : X → Bool) (xs : List X) (j : ℕ) (x : X) → slice_get xs j ≡ Some x → p x ≡ true → list_any p xs ≡ true
-any_from p [] j x e h = absurd (cc)
-any_from p (y ∷ ys) zero x e h = let same : y ≡ x = cc in let t : p y ≡ true = ap p same ∙ h in rw t refl
-any_from p (y ∷ ys) (suc j) x e h = let r = any_from p ys j x e h in elim (cases_Bool (p y)) [ inl t ↦ rw t refl | inr t ↦ rw (t, r) refl ]
-
 pub all_gives : {X : Type 0} (p : X → Bool) (xs : List X) (j : ℕ) (x : X) → list_all p xs ≡ true → slice_get xs j ≡ Some x → p x ≡ true
 all_gives p [] j x h e = absurd (cc)
 all_gives p (y ∷ ys) zero x h e = elim (cases_Bool (p y)) [ inl t ↦ let same : y ≡ x = cc in ap p (sym same) ∙ t | inr t ↦ absurd (let r = rw t at h in cc) ]
@@ -136,7 +127,7 @@ spot_of p ls start end h =
     record { at = start + r.0; byte_state = r.1; within = (omega arith, g.0); here = g.1; kind = r.3 }
 
 pub spot_from : (p : ByteState → Bool) (ls : List ByteState) (start end i : ℕ) (l : ByteState) → start ≤ i → i < end → slice_get ls i ≡ Some l → p l ≡ true → list_any p (byte_states_in start end ls) ≡ true
-spot_from p ls start end i l a b e h = any_from p (byte_states_in start end ls) (i - start) l (in_from ls start end i l a b e) h
+spot_from p ls start end i l a b e h = any_passes_from_place p (byte_states_in start end ls) (i - start) l (in_from ls start end i l a b e) h
 
 pub is_absent_gives : (l : ByteState) → is_absent l ≡ true → l ≡ absent
 is_absent_gives absent h = refl

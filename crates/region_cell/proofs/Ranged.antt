@@ -7,13 +7,14 @@ use Rattle.std.proofs.lemmas.List.{length-map}
 use Rattle.std.proofs.lemmas.Option.{slice_get_within}
 use Rattle.region_ranges.specs.declared.ranges.ByteRange.{ByteRange}
 use Rattle.region_ranges.specs.Ranges.{inside, aligned}
+use Rattle.region_ranges.proofs.Walks.{inside_is}
 use Rattle.sparse_tracker.specs.declared.tickets.Ticket.{Ticket}
 use Rattle.sparse_tracker.specs.ByteStates as byte_states
 use Rattle.sparse_tracker.specs.ByteStates.{ByteState, absent, pending, present, is_absent, is_under, change, Tracker, open_gap, open_gap_at, with_ticket, new_ticket, fail_ticket, lacks, least_unused, ids}
 use Rattle.sparse_tracker.specs.Places.{ClaimPlaces}
 use Rattle.region_cell.specs.Cells.{Region, len_of, IsRanged, assign, claim, claim_run, range_round, progress, fail, leave}
 use Rattle.region_cell.proofs.Places.{slot_change, slot_map, slot_behind, slot_without, length_change, Spot, spot_of, spot_from, is_absent_gives}
-use Rattle.region_cell.proofs.Orders.{order_new, order_map, order_progress, order_claim, reaches, in_is, part_gives, part_is}
+use Rattle.region_cell.proofs.Orders.{order_new, order_map, order_progress, order_claim, reaches, part_gives, part_is}
 
 -- an absent byte of the sub-range, by its place
 pub lacks_from : (t : Tracker) (k : Ticket) (i : ℕ) → k.start ≤ i → i < k.end → slice_get t.byte_states i ≡ Some absent → lacks (record { start = k.start; end = k.end }) t ≡ true
@@ -186,7 +187,7 @@ module _ (range : ℕ) (sub : ByteRange) (c : Region) (places : ClaimPlaces) (so
               let high : s.at < sub.end = omega (arith, ends, s.within) in
               let behind : at ≤ s.at = elim (cases_lt s.at at) [ inl l ↦ absurd (free.before s.at low l a.1) | inr l ↦ l ] in
               let z = reaches range sub.start g at ls run some r.order run_round s.at (omega (arith, run_round.within)) (slice_get_within ls s.at absent a.1) (inside_sub s.at low high) in
-              absurd (let i = in_is run s.at (omega (arith, run_round.within)) z in let w : true ≡ false = sym i ∙ a.0 in cc)
+              absurd (let i = inside_is run s.at (omega (arith, run_round.within)) z in let w : true ≡ false = sym i ∙ a.0 in cc)
         ]);
       }
 

@@ -5,6 +5,7 @@ use Rattle.std.specs.List.{prefix_len, range_with_len}
 use Rattle.std.proofs.lemmas.Bool.{cases_lt, cases_Bool}
 use Rattle.std.proofs.lemmas.Bool.Decides.{nat_tests}
 use Rattle.std.proofs.lemmas.List.{get_or-drop, get_or-take, get_or-reverse, length-map, length-reverse}
+use Rattle.std.proofs.lemmas.List.FromFn.{length-range_with_len}
 use Rattle.region_ranges.specs.declared.ranges.ByteRange.{ByteRange}
 use Rattle.region_ranges.specs.Ranges.{has, IsFirstRun, first_run, run_at, free_below}
 
@@ -15,17 +16,13 @@ prefix_is q (x ∷ xs) (suc n) d l h e =
     let t : q x ≡ true = h 0 (omega arith) in
     rw (t, prefix_is q xs n d (omega arith) (λ i k. h (suc i) (omega arith)) (λ k. e (omega arith))) (omega arith)
 
-pub length-range : (a n : ℕ) → length (range_with_len a n) ≡ n
-length-range a zero = refl
-length-range a (suc n) = ap suc (length-range (a + 1) n)
-
 pub at_range : {X : Type 0} (f : ℕ → X) (a n i : ℕ) (d : X) → i < n → get_or (map f (range_with_len a n)) i d ≡ f (a + i)
 at_range f a zero i d h = absurd (omega arith)
 at_range f a (suc n) zero d h = let e : a ≡ a + 0 = omega arith in ap f e
 at_range f a (suc n) (suc i) d h = let e : a + 1 + i ≡ a + suc i = omega arith in at_range f (a + 1) n i d (omega arith) ∙ ap f e
 
 pub length-free : (rs : List ByteRange) (n : ℕ) → length (free_below rs n) ≡ n
-length-free rs n = length-map (range_with_len 0 n) (λ i. not (has rs i)) ∙ length-range 0 n
+length-free rs n = length-map (range_with_len 0 n) (λ i. not (has rs i)) ∙ length-range_with_len 0 n
 
 pub at_free : (rs : List ByteRange) (n i : ℕ) (d b : Bool) → i < n → has rs i ≡ b → get_or (free_below rs n) i d ≡ not b
 at_free rs n i d b h e = at_range (λ k. not (has rs k)) 0 n i d h ∙ (let z : 0 + i ≡ i = omega arith in rw (z, e) refl)

@@ -1,9 +1,9 @@
 -- The settings of a cache that the words give.
-use Rattle.std.proofs.Common.{◌≡◌, ℕ, ◌<◌, ◌≤◌, ◌%◌, ◌*◌, ◌==◌, ◌⊎◌, inl, inr, true, arith, sym, ◌∙◌}
-use Rattle.std.proofs.lemmas.Bool.{and_parts}
+use Rattle.std.proofs.Common.{◌≡◌, ℕ, ◌<◌, ◌≤◌, ◌%◌, ◌*◌, ◌⊎◌, inl, inr, true, arith, sym, ◌∙◌}
+use Rattle.std.proofs.lemmas.Bool.{and_parts, leb-true, eqb-true}
 use Rattle.std.proofs.lemmas.Bool.Decides.{nat_tests}
 use Rattle.std.proofs.lemmas.Bool.{cases_lt}
-use Rattle.std.specs.Prelude.{nat_lt, nat_le}
+use Rattle.std.specs.Prelude.{nat_lt}
 use Rattle.std.proofs.Math.Nat.{mod-eq_of_lt}
 use Rattle.region_ranges.specs.Keys.{IsConfig}
 use Rattle.run_setup.specs.Settings.{in_limits, config_of}
@@ -11,12 +11,6 @@ use Rattle.run_setup.specs.declared.settings.RunSettings.{RunSettings}
 
 below : (m n : ℕ) → nat_lt m n ≡ true → m < n
 below m n h = grind (arith, nat_tests)
-
-at_most : (m n : ℕ) → nat_le m n ≡ true → m ≤ n
-at_most m n h = grind (arith, nat_tests)
-
-same : (m n : ℕ) → (m == n) ≡ true → m ≡ n
-same m n h = grind (arith, nat_tests)
 
 -- a number that divides a positive one is no greater
 divisor_by : (n d : ℕ) → 0 < n → n % d ≡ 0 → (n < d) ⊎ (d ≤ n) → d ≤ n
@@ -36,19 +30,19 @@ config_good s is =
     let range_divides = and_parts _ _ second.1 in
     let range = and_parts _ _ range_divides.0 in
     let some_regions : 0 < s.regions = below 0 s.regions regions.0 in
-    let most_regions : s.regions ≤ 512 = at_most s.regions 512 regions.1 in
+    let most_regions : s.regions ≤ 512 = leb-true s.regions 512 regions.1 in
     let some_region : 0 < s.region = below 0 s.region region.0 in
-    let most_region : s.region ≤ 16777216 = at_most s.region 16777216 region.1 in
+    let most_region : s.region ≤ 16777216 = leb-true s.region 16777216 region.1 in
     let some_range : 0 < s.range = below 0 s.range range.0 in
-    let divides : s.region % s.range ≡ 0 = same (s.region % s.range) 0 range_divides.1 in
+    let divides : s.region % s.range ≡ 0 = eqb-true (s.region % s.range) 0 range_divides.1 in
     let fits : s.range ≤ s.region = divisor_by s.region s.range some_region divides (cases_lt s.region s.range) in
-    let total : s.regions * s.region ≤ 1073741824 = at_most (s.regions * s.region) 1073741824 first.1 in
+    let total : s.regions * s.region ≤ 1073741824 = leb-true (s.regions * s.region) 1073741824 first.1 in
     record {
       regions = (some_regions, omega (arith, most_regions));
       region = (some_region, omega (arith, most_region));
       range = (some_range, omega (arith, most_region, fits));
-      region_pages = same (s.region % 4096) 0 region_pages.1;
-      range_pages = same (s.range % 4096) 0 range.1;
+      region_pages = eqb-true (s.region % 4096) 0 region_pages.1;
+      range_pages = eqb-true (s.range % 4096) 0 range.1;
       divides = divides;
       total = total;
       max_freq = omega arith;

@@ -1,7 +1,7 @@
 -- The settings of the command `make`, in its words.
 use Rattle.std.specs.Prelude.{ℕ, ◌*◌, ◌&&◌, ◌||◌, List, [], ◌∷◌, Bool, nat_lt, nat_le, is_some, Option, Some, None, option_and_then, if◌then◌else◌, codes}
 use Rattle.std.specs.List.{list_all}
-use Rattle.run_setup.specs.Settings.{behind_key, is_setting, values, number_of, numbers, in_limits}
+use Rattle.run_setup.specs.Settings.{behind_key, is_setting, values, number_of, numbers, in_limits, ◌>>=◌}
 use Rattle.run_setup.specs.declared.make_settings.MakeSettings.{MakeSettings}
 
 -- the word is a setting: it begins with one of three keys of its own, or with one of the keys of `run`

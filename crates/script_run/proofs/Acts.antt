@@ -1,5 +1,5 @@
 -- A run without `clear` and `unmount` lines is entries for parts of the mounted files, and decays.
-use Rattle.std.proofs.Common.{◌≡◌, ◌∙◌, ◌<◌, ◌≤◌, ◌+◌, ℕ, zero, suc, Bool, true, false, cond, List, [], ◌∷◌, ◌++◌, length, sym, subst, ap, refl, inl, inr, arith}
+use Rattle.std.proofs.Common.{◌≡◌, ◌∙◌, ◌<◌, ◌+◌, ℕ, zero, suc, Bool, true, false, cond, List, [], ◌∷◌, ◌++◌, length, sym, subst, ap, refl, inl, inr}
 use Rattle.std.specs.Prelude.{IsTrue, Option, Some, None, ◌⊎◌, slice_get}
 use Rattle.std.specs.List.{list_any}
 use Rattle.std.specs.Str.{bytes_eq}
@@ -20,6 +20,7 @@ use Rattle.cache_reader.specs.MountsOnce.{IsOneOf, IsWholeManifest, manifests_fi
 use Rattle.cache_reader.specs.Once.{ByActs}
 use Rattle.cache_reader.specs.Reports.{no_bytes}
 use Rattle.cache_reader.specs.declared.report.Report.{Report}
+use Rattle.cache_reader.proofs.Mounts.{append_left, append_right}
 use Rattle.directory_input.specs.Reads as directory
 use Rattle.mount_script.specs.declared.command.Command.{Command}
 use Rattle.mount_script.specs.declared.command.Command.TheVariants.{Mount, Unmount, Clear, Decay, Stats, Search, Fetch, Read}
@@ -38,15 +39,6 @@ use Rattle.script_run.proofs.Exact.{Quiet, quiet_first, quiet_then, does_state, 
 use Rattle.script_run.proofs.Rosters.{mounted_with}
 
 -- ---- lists
-
-front_at : {X : Type 0} (xs ys : List X) (i : ℕ) (x : X) → slice_get xs i ≡ Some x → slice_get (xs ++ ys) i ≡ Some x
-front_at [] ys i x h = absurd (cc)
-front_at (z ∷ xs) ys zero x h = h
-front_at (z ∷ xs) ys (suc i) x h = front_at xs ys i x h
-
-back_at : {X : Type 0} (xs ys : List X) (i : ℕ) (x : X) → slice_get ys i ≡ Some x → slice_get (xs ++ ys) (length xs + i) ≡ Some x
-back_at {X = X} [] ys i x h = let same : i ≡ length {A = X} [] + i = omega arith in subst (λ j. slice_get ys j ≡ Some x) same h
-back_at (z ∷ xs) ys i x h = let same : suc (length xs + i) ≡ length (z ∷ xs) + i = omega arith in subst (λ j. slice_get (z ∷ xs ++ ys) j ≡ Some x) same (back_at xs ys i x h)
 
 -- what stands in one list behind another stands in one of them
 either_at : {X : Type 0} (xs ys : List X) (i : ℕ) (x : X) → slice_get (xs ++ ys) i ≡ Some x → ((j : ℕ) × (slice_get xs j ≡ Some x)) ⊎ ((j : ℕ) × (slice_get ys j ≡ Some x))
@@ -224,10 +216,10 @@ record BlocksActed (e : Cached) (ms : List ℕ) (blocks : List (List Line)) (x y
   by : ByActs e.blobs e.config (manifests_files e.blobs ms) taken (state_of x.core) (state_of y.core)
 
 in_front : (n : ℕ) (xs ys : List ℕ) → IsOneOf xs n → IsOneOf (xs ++ ys) n
-in_front n xs ys h = (h.0, front_at xs ys h.0 n h.1)
+in_front n xs ys h = (h.0, append_left xs ys h.0 n h.1)
 
 in_back : (n : ℕ) (xs ys : List ℕ) → IsOneOf ys n → IsOneOf (xs ++ ys) n
-in_back n xs ys h = (length xs + h.0, back_at xs ys h.0 n h.1)
+in_back n xs ys h = (length xs + h.0, append_right xs ys h.0 n h.1)
 
 one_mounted : (e : Cached) (r q : RosterView) (block : List Line) (replies : List Reply) (x y : Point) (h : MountWent e r q block replies x y)
     → mounted_in_block e.blobs block replies ≡ mounted_by e.blobs (Mount h.name h.manifest) h.given

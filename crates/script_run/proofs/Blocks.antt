@@ -32,7 +32,8 @@ use Rattle.script_run.specs.Lines.{is_shared, is_mount, Cached, cached, IsAnswer
 use Rattle.script_run.specs.declared.sums.Sums.{Sums}
 use Rattle.script_run.specs.MountLines.{MountKind, MountsOne, RosterGoes, MountDoes}
 use Rattle.script_run.specs.Blocks.{alone, seen, IsIdle, UnmountedIn, forgets, forgets_any, Forgotten, NoStats, BlockStats, stats_of, AllShared, NoMounts, IsBlock, Kinds, LinesRan, BlockRan}
-use Rattle.script_run.proofs.Rosters.{names_same, names_are, mounted_with}
+use Rattle.script_run.proofs.Rosters.{names_same, mounted_with}
+use Rattle.simpletext_postings.proofs.Rising.{same_bytes}
 
 -- ---- what a block takes out of a roster
 
@@ -57,7 +58,7 @@ forgets_more (suc i) (m ∷ ls) (y ∷ xs) l x other e f h k =
     together true b c = refl
     together false b c = refl
 
-cond_or : {X : Type 0} (a b : Bool) (o : Option X) → cond b None (cond a None o) ≡ cond (a || b) None o
+pub cond_or : {X : Type 0} (a b : Bool) (o : Option X) → cond b None (cond a None o) ≡ cond (a || b) None o
 cond_or true true o = refl
 cond_or true false o = refl
 cond_or false b o = refl
@@ -383,11 +384,6 @@ pub no_mounts_of : (ls : List Line) → AllShared ls → NoMounts ls
 no_mounts_of [] s = tt {0}
 no_mounts_of (l ∷ ls) s = (no_mount l.command s.0, no_mounts_of ls s.1)
 
-cond_twice : {X : Type 0} (a b : Bool) (o : Option X) → cond b None (cond a None o) ≡ cond (a || b) None o
-cond_twice true true o = refl
-cond_twice true false o = refl
-cond_twice false b o = refl
-
 pub block_makes : (blobs : Listing) (ls : List Line) (xs : List Reply) (m : Mounts) (other : List ℕ) → NoMounts ls → length xs ≡ length ls
     → (after_block blobs ls xs m).number_of other ≡ cond (forgets_any ls xs other) None (m.number_of other)
 block_makes blobs [] xs m other s e = refl
@@ -396,7 +392,7 @@ block_makes blobs (l ∷ ls) (x ∷ xs) m other s e =
     let less : length xs ≡ length ls = omega (arith, e) in
     block_makes blobs ls xs (after_line blobs l.command x m) other s.1 less
     ∙ ap (λ (o : Option ℕ). cond (forgets_any ls xs other) None o) (line_makes blobs l.command x m other s.0)
-    ∙ cond_twice (forgets l.command x other) (forgets_any ls xs other) (m.number_of other)
+    ∙ cond_or (forgets l.command x other) (forgets_any ls xs other) (m.number_of other)
 
 pub block_made : (blobs : Listing) (ls : List Line) (xs : List Reply) (m : Mounts) → NoMounts ls → length xs ≡ length ls → (after_block blobs ls xs m).made ≡ m.made
 block_made blobs [] xs m s e = refl
@@ -427,7 +423,7 @@ forgot r name m (l ∷ ls) (x ∷ xs) h is there = by_line (λ more. forgot r na
     here (Fetch other segment doc) e k = absurd (cc)
     here (Read other file at len) e k = absurd (cc)
     here (Unmount other) e k =
-        let same : mounted other r ≡ Some m = ap (λ (n : List ℕ). mounted n r) (names_are other name e) ∙ is in
+        let same : mounted other r ≡ Some m = ap (λ (n : List ℕ). mounted n r) (same_bytes other name e) ∙ is in
         let P : Option MountView → Type 0 = λ o. HasKind (Unmount other) o x in
         let answered : x ≡ reply.Unmounted = subst P same k in
         ap (λ (y : Reply). forgets (Unmount other) y name) answered ∙ e

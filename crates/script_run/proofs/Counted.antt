@@ -1,23 +1,21 @@
 -- The bytes that the lines of a run took, counted.
-use Rattle.std.proofs.Common.{◌≡◌, ◌∙◌, ◌<◌, ◌≤◌, ◌+◌, ◌-◌, ◌^◌, ℕ, zero, suc, Bool, true, false, List, [], ◌∷◌, ◌++◌, length, sym, subst, ap, refl, inl, inr, arith}
-use Rattle.std.specs.Prelude.{IsTrue, Option, Some, None, ◌||◌, ◌⊎◌}
+use Rattle.std.proofs.Common.{◌≡◌, ◌∙◌, ◌<◌, ◌≤◌, ◌+◌, ◌-◌, ◌^◌, ℕ, Bool, true, false, List, [], ◌∷◌, ◌++◌, length, sym, subst, ap, refl, inl, inr, arith}
+use Rattle.std.specs.Prelude.{IsTrue, Option, Some, None, ◌||◌}
 use Rattle.std.specs.List.{list_any}
 use Rattle.std.proofs.Math.Nat.{le_refl, le_trans}
 use Rattle.std.proofs.lemmas.List.{length-append, append-nil}
+use Rattle.std.proofs.lemmas.Bool.{or_parts}
 use Rattle.byte_text.specs.Counts.{Rose}
 use Rattle.cache_outside.specs.Listing.{Listing}
 use Rattle.cache_outside.specs.Sources.{SourceView}
 use Rattle.blob_parts.specs.Takes.{Took}
-use Rattle.blob_parts.specs.Reading.{took_none, took_both}
+use Rattle.blob_parts.specs.Reading.{took_none, took_both, rose_first, rose_then}
 use Rattle.index_mounts.specs.Rosters.{MountView, RosterView, mounted}
-use Rattle.cache_door.specs.Cores.{CoreView, all_faults}
-use Rattle.cache_door.specs.declared.work.Work.{Work}
-use Rattle.cache_door.specs.Machine.{State}
+use Rattle.cache_door.specs.Cores.{all_faults}
 use Rattle.cache_reader.specs.declared.report.Report.{Report}
-use Rattle.cache_reader.specs.Reports.{no_bytes, Grew}
+use Rattle.cache_reader.specs.Reports.{no_bytes}
 use Rattle.cache_reader.specs.Parts.{ReadSetting}
 use Rattle.cache_reader.specs.Going.{Moment}
-use Rattle.cache_reader.specs.Through.{rose_first, rose_then}
 use Rattle.directory_input.specs.Reads as directory
 use Rattle.mount_script.specs.declared.command.Command.{Command}
 use Rattle.mount_script.specs.declared.command.Command.TheVariants.{Mount, Unmount, Clear, Decay, Stats, Search, Fetch, Read}
@@ -29,9 +27,9 @@ use Rattle.script_run.specs.declared.sums.Sums.{Sums}
 use Rattle.script_run.specs.Allowed.{is_memory, some_reply}
 use Rattle.script_run.specs.Bytes.{manifest_named, manifest_read, BytesTook, BlockTook, BlocksTook, StatsCounted, OfLast}
 use Rattle.script_run.specs.Counters.{all_replies}
-use Rattle.script_run.specs.Lines.{Cached, DoorDoes, FilesRead, LineDoes, is_shared}
+use Rattle.script_run.specs.Lines.{Cached, FilesRead, LineDoes, is_shared}
 use Rattle.script_run.specs.MountLines.{MountKind}
-use Rattle.script_run.specs.Blocks.{Point, seen, stats_of, AllShared, NoStats, LineWent, LinesWent, SharedWent, MountWent, StatsWent, BlockWent, BlocksWent}
+use Rattle.script_run.specs.Blocks.{Point, seen, AllShared, NoStats, LineWent, LinesWent, SharedWent, MountWent, StatsWent, BlockWent, BlocksWent}
 
 -- Between two moments of a run no count fell; and where no memory was wanted (`lacks`) and no count of failures rose, the sums rose by so many bytes together.
 pub record Counting (lacks : Bool) (n : ℕ) (x y : Point) : Type 0 where
@@ -51,10 +49,6 @@ counting_none lacks x = record {
   counted = λ a b c d f. omega arith;
 }
 
-either_false : (a b : Bool) → (a || b) ≡ false → (a ≡ false) × (b ≡ false)
-either_false true b h = absurd (cc)
-either_false false b h = (refl, h)
-
 pub counting_more : (k l : Bool) (m n : ℕ) (x y z : Point) → Counting k m x y → Counting l n y z → Counting (k || l) (m + n) x z
 counting_more k l m n x y z h j = record {
   faults = le_trans h.faults j.faults;
@@ -62,7 +56,7 @@ counting_more k l m n x y z h j = record {
   fetched = le_trans h.fetched j.fetched;
   direct = le_trans h.direct j.direct;
   counted = λ none calm still f d.
-      let apart = either_false k l none in
+      let apart = or_parts k l none in
       let fetched : y.sums.fetched < 2 ^ 64 - 1 = omega (arith, j.fetched, f) in
       let direct : y.sums.direct < 2 ^ 64 - 1 = omega (arith, j.direct, d) in
       let first = h.counted apart.0 (λ r. calm (rose_first x.source.faults y.source.faults z.source.faults j.faults r))

@@ -1,31 +1,28 @@
 -- Where only `read` lines read, a run is what the steps of the state say.
-use Rattle.std.proofs.Common.{◌≡◌, ◌∙◌, ◌<◌, ◌≤◌, ◌+◌, ◌-◌, ◌^◌, ℕ, zero, suc, Bool, true, false, cond, List, [], ◌∷◌, ◌++◌, length, map, sym, subst, ap, ap₂, refl, inl, inr, arith}
-use Rattle.std.specs.Prelude.{IsTrue, Option, Some, None, Result, Ok, Err, option_map, min, ◌||◌, ◌⊎◌, slice_get, if◌then◌else◌}
+use Rattle.std.proofs.Common.{◌≡◌, ◌∙◌, ◌<◌, ◌≤◌, ◌+◌, ◌-◌, ◌^◌, ℕ, zero, suc, Bool, true, false, cond, List, [], ◌∷◌, length, map, sym, subst, ap, ap₂, refl, inl, inr, arith}
+use Rattle.std.specs.Prelude.{IsTrue, Option, Some, None, option_map, min, ◌||◌, ◌⊎◌, slice_get}
 use Rattle.std.specs.List.{list_any}
 use Rattle.std.specs.Option.{option_map_or}
 use Rattle.std.specs.Str.{bytes_eq}
-use Rattle.std.proofs.Math.Nat.{le_refl, le_trans}
 use Rattle.std.proofs.Math.Path.{fun_ext}
-use Rattle.std.proofs.lemmas.Bool.{cases_lt}
+use Rattle.std.proofs.lemmas.Bool.{cases_lt, or_parts}
 use Rattle.byte_text.specs.Counts.{Rose}
-use Rattle.cache_outside.specs.Listing.{Listing, manifest_number}
+use Rattle.cache_outside.specs.Listing.{Listing}
 use Rattle.cache_outside.specs.Sources.{SourceView}
 use Rattle.mount_manifest.specs.Manifest.{Facts}
 use Rattle.mount_manifest.specs.declared.record.FileRecord.{FileRecord}
-use Rattle.blob_parts.specs.Content.{manifest_at}
-use Rattle.blob_parts.specs.Tables.{FileParts, TableParts, file_length, lengths_of}
+use Rattle.blob_parts.specs.Tables.{FileParts, file_length, lengths_of}
 use Rattle.blob_parts.specs.Takes.{Took}
-use Rattle.blob_parts.specs.Reading.{took_none, took_both}
+use Rattle.blob_parts.specs.Reading.{took_none, took_both, rose_first, rose_then}
 use Rattle.directory_input.specs.Reads as directory
-use Rattle.index_mounts.specs.Rosters.{MountView, RosterView, IsRoster, IsResolved, mounted, no_mounts}
-use Rattle.cache_door.specs.Cores.{CoreView, state_of, door_of, all_faults}
+use Rattle.index_mounts.specs.Rosters.{MountView, RosterView, IsRoster, IsResolved, mounted}
+use Rattle.cache_door.specs.Cores.{state_of, door_of, all_faults}
 use Rattle.cache_door.specs.Doors.{DoorView}
 use Rattle.cache_door.specs.Machine.{State, age, clear, unmount}
-use Rattle.cache_reader.specs.Alone.{Outcome, unchanged, then_outcome, outcome_over, reads_outcome, HasOutcome}
+use Rattle.cache_reader.specs.Alone.{Outcome, unchanged, then_outcome, reads_outcome, HasOutcome}
 use Rattle.cache_reader.specs.declared.report.Report.{Report}
 use Rattle.cache_reader.specs.Reports.{no_bytes, Grew}
 use Rattle.cache_reader.specs.Going.{Moment}
-use Rattle.cache_reader.specs.Through.{rose_first, rose_then}
 use Rattle.mount_script.specs.declared.command.Command.{Command}
 use Rattle.mount_script.specs.declared.command.Command.TheVariants.{Mount, Unmount, Clear, Decay, Stats, Search, Fetch, Read}
 use Rattle.mount_script.specs.declared.command.Line.{Line}
@@ -36,11 +33,11 @@ use Rattle.script_run.specs.declared.sums.Sums.{Sums}
 use Rattle.script_run.specs.Allowed.{is_memory, some_reply}
 use Rattle.script_run.specs.Bytes.{BytesTook, BlockTook, BlocksTook}
 use Rattle.script_run.specs.Lines.{Cached, LineDoes, FilesRead, reading, asked_reads, is_shared, is_mount}
-use Rattle.script_run.specs.MountLines.{MountKind, MountsOne, RosterGoes, MountDoes}
+use Rattle.script_run.specs.MountLines.{MountsOne, RosterGoes, MountDoes}
 use Rattle.script_run.specs.RunTakes.{MountNumbers, NamedMounts, numbers_in, named_behind, named_behind_block, mount_reading, length_in, facts_of, line_step, line_outcome, block_outcome, blocks_outcome, searches, some_search}
-use Rattle.script_run.specs.Blocks.{Point, seen, stats_of, AllShared, NoMounts, Forgotten, forgets, forgets_any, LineWent, LinesWent, SharedWent, MountWent, StatsWent, BlockWent, BlocksWent}
-use Rattle.script_run.proofs.Blocks.{no_mounts_of}
-use Rattle.script_run.proofs.Counted.{Counting, shared_manifest, lines_counted, block_counted, blocks_counted}
+use Rattle.script_run.specs.Blocks.{Point, seen, stats_of, AllShared, NoMounts, forgets, forgets_any, LineWent, LinesWent, SharedWent, MountWent, StatsWent, BlockWent, BlocksWent}
+use Rattle.script_run.proofs.Blocks.{no_mounts_of, cond_or}
+use Rattle.script_run.proofs.Counted.{shared_manifest, lines_counted, block_counted, blocks_counted}
 use Rattle.script_run.proofs.Rosters.{mounted_with}
 
 -- ---- what is mounted
@@ -77,11 +74,6 @@ line_made blobs (Search name size text) x m s = refl
 line_made blobs (Fetch name segment doc) x m s = refl
 line_made blobs (Read name file at len) x m s = refl
 
-cond_twice : {X : Type 0} (a b : Bool) (o : Option X) → cond b None (cond a None o) ≡ cond (a || b) None o
-cond_twice true true o = refl
-cond_twice true false o = refl
-cond_twice false b o = refl
-
 block_names : (blobs : Listing) (ls : List Line) (xs : List Reply) (m : NamedMounts) (other : List ℕ) → NoMounts ls → length xs ≡ length ls
     → (named_behind_block blobs ls xs m).under other ≡ cond (forgets_any ls xs other) None (m.under other)
 block_names blobs [] xs m other s e = refl
@@ -90,7 +82,7 @@ block_names blobs (l ∷ ls) (x ∷ xs) m other s e =
     let less : length xs ≡ length ls = omega (arith, e) in
     block_names blobs ls xs (named_behind blobs l.command x m) other s.1 less
     ∙ ap (λ (o : Option MountNumbers). cond (forgets_any ls xs other) None o) (line_names blobs l.command x m other s.0)
-    ∙ cond_twice (forgets l.command x other) (forgets_any ls xs other) (m.under other)
+    ∙ cond_or (forgets l.command x other) (forgets_any ls xs other) (m.under other)
 
 block_made : (blobs : Listing) (ls : List Line) (xs : List Reply) (m : NamedMounts) → NoMounts ls → length xs ≡ length ls → (named_behind_block blobs ls xs m).made ≡ m.made
 block_made blobs [] xs m s e = refl
@@ -182,22 +174,18 @@ pub record Quiet (searching lacks : Bool) (x y : Point) : Type 0 where
   pub source : Rose x.source.faults y.source.faults → ⊥
   pub frames : Rose (all_faults x.core.cells) (all_faults y.core.cells) → ⊥
 
-either_false : (a b : Bool) → (a || b) ≡ false → (a ≡ false) × (b ≡ false)
-either_false true b h = absurd (cc)
-either_false false b h = (refl, h)
-
 pub quiet_first : (k l m n : Bool) (x z y : Point) → z.source.faults ≤ y.source.faults → all_faults z.core.cells ≤ all_faults y.core.cells → Quiet (k || l) (m || n) x y → Quiet k m x z
 quiet_first k l m n x z y f g h = record {
-  search = (either_false k l h.search).0;
-  memory = (either_false m n h.memory).0;
+  search = (or_parts k l h.search).0;
+  memory = (or_parts m n h.memory).0;
   source = λ r. h.source (rose_first x.source.faults z.source.faults y.source.faults f r);
   frames = λ r. h.frames (rose_first (all_faults x.core.cells) (all_faults z.core.cells) (all_faults y.core.cells) g r);
 }
 
 pub quiet_then : (k l m n : Bool) (x z y : Point) → x.source.faults ≤ z.source.faults → all_faults x.core.cells ≤ all_faults z.core.cells → Quiet (k || l) (m || n) x y → Quiet l n z y
 quiet_then k l m n x z y f g h = record {
-  search = (either_false k l h.search).1;
-  memory = (either_false m n h.memory).1;
+  search = (or_parts k l h.search).1;
+  memory = (or_parts m n h.memory).1;
   source = λ r. h.source (rose_then x.source.faults z.source.faults y.source.faults f r);
   frames = λ r. h.frames (rose_then (all_faults x.core.cells) (all_faults z.core.cells) (all_faults y.core.cells) g r);
 }

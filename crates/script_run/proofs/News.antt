@@ -1,17 +1,13 @@
 -- A core that was made anew, as its maker says it.
-use Rattle.std.proofs.Common.{◌≡◌, ◌∙◌, ℕ, zero, suc, List, [], Bool, false, ap, map, refl, sym}
-use Rattle.std.specs.Prelude.{replicate, slice_index_or, if◌then◌else◌}
+use Rattle.std.proofs.Common.{◌≡◌, ◌∙◌, ℕ, List, [], Bool, ap, map, sym}
+use Rattle.std.specs.Prelude.{if◌then◌else◌}
 use Rattle.std.specs.List.{list_all}
 use Rattle.region_ranges.specs.declared.keys.Config.{Config}
 use Rattle.cache_outside.specs.Frames.{FrameView}
 use Rattle.cache_door.specs.Machine.{State, is_gone, new_state}
 use Rattle.cache_door.specs.Cores.{CoreView, state_of, first_state}
 use Rattle.script_run.specs.Blocks.{IsFirst, IsNew}
-
-none_at : (n m : ℕ) → slice_index_or (replicate n false) m false ≡ false
-none_at zero m = refl
-none_at (suc n) zero = refl
-none_at (suc n) (suc m) = none_at n m
+use Rattle.simpletext_stored.proofs.Listed.{none_in}
 
 as_first : (config : Config) (told : Bool) (frames : List (List ℕ)) (core : CoreView) → state_of core ≡ new_state config told frames 1 → IsFirst core.config (state_of core)
 as_first config told frames core e = (told, frames, e ∙ ap (λ (c : Config). new_state c told frames 1) (ap (λ (s : State). s.config) (sym e)))
@@ -20,7 +16,7 @@ pub new_core : {F : Type 0} (config : Config) (view : F → FrameView) (frames :
 new_core config view frames core e = record {
   first = as_first config (list_all (λ f. (view f).tells) frames) (map (λ f. if list_all (λ g. (view g).tells) frames then (view f).bytes else []) frames) core e;
   idle = ap (λ (s : State). s.holds) e;
-  mounts = λ m. ap (λ (s : State). is_gone s m) e ∙ none_at 4096 m;
+  mounts = λ m. ap (λ (s : State). is_gone s m) e ∙ none_in 4096 m;
   evictions = ap (λ (s : State). s.policy.evictions) e;
   promotions = ap (λ (s : State). s.policy.promotions) e;
   demotions = ap (λ (s : State). s.policy.demotions) e;

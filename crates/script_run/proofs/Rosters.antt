@@ -13,16 +13,13 @@ use Rattle.std.specs.BTreeMap.{insert_entry}
 use Rattle.std.proofs.lemmas.Cmp.{nat_list_eq_equiv}
 use Rattle.std.proofs.lemmas.Map.{lookup-remove_entry}
 use Rattle.std.proofs.lemmas.Map.Keys.{IsDistinct-from_sorted}
-use Rattle.std.proofs.lemmas.Slice.Eq.{bytes_eq-Decides}
 use Rattle.mount_manifest.specs.Manifest.{Facts}
 use Rattle.blob_parts.specs.Tables.{TableParts}
 use Rattle.index_mounts.specs.Rosters.{RosterView, mounted, with_mount, without}
+use Rattle.simpletext_postings.proofs.Rising.{same_bytes}
 
 pub names_same : (name : List ℕ) → bytes_eq name name ≡ true
 names_same name = nat_list_eq_equiv.refl name
-
-pub names_are : (name other : List ℕ) → bytes_eq name other ≡ true → name ≡ other
-names_are name other = (bytes_eq-Decides name other).0
 
 pub names_turn : (name other : List ℕ) → bytes_eq name other ≡ bytes_eq other name
 names_turn name other = nat_list_eq_equiv.symm name other
@@ -48,13 +45,13 @@ module _ {X : Type 0} (k : List ℕ) (v : X) (other : List ℕ) where
   -- at an equal key
   same : (j : List ℕ) (w : X) (o : Option X) (b : Bool) → bytes_eq k j ≡ true → bytes_eq k other ≡ b
       → cond (bytes_eq other j) (Some v) o ≡ cond (bytes_eq k other) (Some v) (cond (bytes_eq other j) (Some w) o)
-  same j w o true e f = let g = subst (λ (n : List ℕ). bytes_eq n other ≡ true) (names_are k j e) f in rw (f, names_turn other j, g)
-  same j w o false e f = let g = subst (λ (n : List ℕ). bytes_eq n other ≡ false) (names_are k j e) f in rw (f, names_turn other j, g)
+  same j w o true e f = let g = subst (λ (n : List ℕ). bytes_eq n other ≡ true) (same_bytes k j e) f in rw (f, names_turn other j, g)
+  same j w o false e f = let g = subst (λ (n : List ℕ). bytes_eq n other ≡ false) (same_bytes k j e) f in rw (f, names_turn other j, g)
 
   -- behind another key
   apart : (j : List ℕ) (w : X) (o : Option X) (b c : Bool) → bytes_eq k j ≡ false → bytes_eq k other ≡ b → bytes_eq other j ≡ c
       → cond c (Some w) (cond b (Some v) o) ≡ cond b (Some v) (cond c (Some w) o)
-  apart j w o true true e f g = let h = subst (λ (n : List ℕ). bytes_eq n j ≡ true) (sym (names_are k other f)) g in absurd (cc)
+  apart j w o true true e f g = let h = subst (λ (n : List ℕ). bytes_eq n j ≡ true) (sym (same_bytes k other f)) g in absurd (cc)
   apart j w o true false e f g = refl
   apart j w o false true e f g = refl
   apart j w o false false e f g = refl

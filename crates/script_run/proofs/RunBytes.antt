@@ -1,15 +1,14 @@
 -- The bytes that a run took, and the replies of its `stats` lines.
-use Rattle.std.proofs.Common.{◌≡◌, ◌∙◌, ◌<◌, ◌≤◌, ◌+◌, ◌-◌, ◌^◌, ℕ, zero, suc, Bool, true, false, List, [], ◌∷◌, length, take, sym, subst, ap, ap₂, refl, inl, inr, arith}
-use Rattle.std.specs.Prelude.{IsTrue, Option, Some, None, min, slice_get}
+use Rattle.std.proofs.Common.{◌≡◌, ◌∙◌, ◌≤◌, ◌-◌, ◌^◌, ℕ, zero, suc, true, false, List, [], ◌∷◌, length, take, sym, subst, ap, ap₂, refl, inl, inr, arith}
+use Rattle.std.specs.Prelude.{IsTrue, Some, min, slice_get}
 use Rattle.cache_outside.specs.Clocks.{ClockView}
 use Rattle.cache_outside.specs.Sinks.{SinkView}
 use Rattle.cache_outside.specs.Sources.{SourceView}
-use Rattle.cache_policy.specs.Policy.{PolicyView, mapped_len}
+use Rattle.cache_policy.specs.Policy.{mapped_len}
 use Rattle.index_mounts.specs.Rosters.{RosterView, no_mounts}
 use Rattle.cache_door.specs.Cores.{CoreView, state_of, all_faults}
 use Rattle.cache_door.specs.Machine.{State}
 use Rattle.cache_reader.specs.Alone.{Outcome, then_outcome}
-use Rattle.mount_script.specs.declared.command.Command.{Command}
 use Rattle.mount_script.specs.declared.command.Command.TheVariants.{Mount, Stats}
 use Rattle.mount_script.specs.declared.command.Line.{Line}
 use Rattle.mount_script.specs.declared.reply.Reply.{Reply}
@@ -17,9 +16,9 @@ use Rattle.mount_script.specs.declared.reply.Reply.TheVariants as reply
 use Rattle.script_run.specs.declared.sums.Sums.{Sums}
 use Rattle.script_run.specs.Allowed.{is_memory, some_reply}
 use Rattle.script_run.specs.Lines.{Cached, no_sums, is_shared}
-use Rattle.script_run.specs.RunTakes.{NamedMounts, none_named, block_outcome, blocks_outcome, named_behind_block, run_takes, some_search, stats_behind}
-use Rattle.script_run.specs.Runs.{outside, core_seen, IsCalm, StatsTold, RunTook}
-use Rattle.script_run.specs.Blocks.{Point, point, stats_of, IsFirst, BlockWent, BlocksWent, RunWent}
+use Rattle.script_run.specs.RunTakes.{NamedMounts, none_named, block_outcome, blocks_outcome, named_behind_block, some_search, stats_behind}
+use Rattle.script_run.specs.Runs.{outside, core_seen, StatsTold, RunTook}
+use Rattle.script_run.specs.Blocks.{Point, point, stats_of, BlockWent, BlocksWent, RunWent}
 use Rattle.script_run.proofs.Counted.{blocks_counted, last_counted}
 use Rattle.script_run.proofs.Acts.{taken_once}
 use Rattle.script_run.proofs.Exact.{Quiet, Small, Did, blocks_exact}

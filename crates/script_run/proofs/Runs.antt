@@ -33,7 +33,7 @@ use Rattle.script_run.specs.declared.sums.Sums.{Sums}
 use Rattle.script_run.specs.declared.ended.Ended.{Ended}
 use Rattle.script_run.specs.declared.ended.Ended.TheVariants.{Done, SinkFault, NoMemory}
 use Rattle.script_run.specs.Lines.{Cached, no_sums}
-use Rattle.script_run.specs.Blocks.{alone, IsIdle, IsNew, IsFirst, IsBlock, UnmountedIn, SumsLater, BlockRan, BlockStats, BlockWent, RunWent, Point, point, StatsFit, RunSoFar, WrittenSoFar}
+use Rattle.script_run.specs.Blocks.{alone, IsIdle, IsNew, IsFirst, IsBlock, UnmountedIn, SumsLater, BlockRan, BlockStats, BlockWent, RunWent, point, StatsFit, RunSoFar, WrittenSoFar}
 use Rattle.script_run.specs.Runs.{IsRun, IsFront, EndsBy, outside, core_seen}
 use Rattle.script_run.proofs.Behind.{written_more, front_more, behind_nothing}
 use Rattle.script_run.proofs.Blocks.{bears_none}
@@ -43,6 +43,7 @@ use Rattle.script_run.proofs.Steps.{count_more}
 use Rattle.script_run.proofs.Steps.{went_none, went_more}
 use Rattle.script_run.proofs.RunBytes.{run_took}
 use Rattle.script_run.proofs.Counts.{fit_more, fit_new, fit_rises, counters_rise}
+use Rattle.blob_parts.specs.Reading.{rose_then}
 
 -- ---- what is mounted matters only where it is told
 
@@ -228,9 +229,6 @@ ended e s script blocks rest replies r sums a b x y t u v w end all h went ends 
   took = λ told. run_took e blocks replies r a b v w sums x y t u told went;
 }
 
-pub rose_on : (a b c : ℕ) → a ≤ b → Rose b c → Rose a c
-rose_on a b c h k = omega (arith, h, k)
-
 -- one block more was written
 pub written_block : (e : Cached) (now : ℕ) (tells frames : Bool) (blobs : Listing) (regions : ℕ) (script : List (List Line)) (i : ℕ) (r q : RosterView) (sums sums' : Sums) (marked lacking also too : Bool) (a b c : SourceView) (t u d : Option (List ℕ))
     (v w y : CoreView) (x k z : SinkView) (block : List Line) (xs : List Reply) → all_tell v.cells ≡ frames → IsNew v → IsBlock block → slice_get script i ≡ Some block
@@ -271,7 +269,7 @@ module _ (e : Cached) (now : ℕ) (tells frames : Bool) (blobs : Listing) (regio
 
   -- the sink failed
   pub cut_fault : Rose k.faults z.faults → IsRun e (alone (tells && frames) blobs regions) script (outside a x t) (outside c z d) (core_seen v y) SinkFault
-  cut_fault rose = cut_run SinkFault (cut_front, rose_on x.faults k.faults z.faults h.faults rose)
+  cut_fault rose = cut_run SinkFault (cut_front, rose_then x.faults k.faults z.faults h.faults rose)
 
   -- memory was wanted for a text
   pub cut_memory : IsRun e (alone (tells && frames) blobs regions) script (outside a x t) (outside c z d) (core_seen v y) NoMemory

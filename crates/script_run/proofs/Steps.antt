@@ -1,15 +1,15 @@
 -- What a run did, line after line and block after block.
-use Rattle.std.proofs.Common.{◌≡◌, ◌∙◌, ◌+◌, ℕ, zero, suc, List, [], ◌∷◌, ◌++◌, length, take, sym, subst, ap, ap₂, refl, inl, inr, Bool}
+use Rattle.std.proofs.Common.{◌≡◌, ◌∙◌, ◌+◌, ℕ, zero, suc, List, [], ◌∷◌, ◌++◌, length, take, sym, subst, ap, ap₂, refl, Bool}
 use Rattle.std.specs.Prelude.{Option, Some, None, Result, Ok, Err, option_map, IfSome}
 use Rattle.std.proofs.Math.Seq.{take-length}
-use Rattle.cache_outside.specs.Clocks.{ClockView, first_time, times_after}
+use Rattle.cache_outside.specs.Clocks.{first_time, times_after}
 use Rattle.cache_outside.specs.Listing.{Listing}
 use Rattle.cache_outside.specs.Sources.{SourceView}
 use Rattle.blob_parts.specs.Loads.{asked}
 use Rattle.blob_parts.specs.Reading.{took_none}
 use Rattle.blob_parts.specs.Takes.{Took, Takes}
 use Rattle.index_mounts.specs.Rosters.{RosterView, no_mounts}
-use Rattle.cache_door.specs.Cores.{CoreView, state_of}
+use Rattle.cache_door.specs.Cores.{state_of}
 use Rattle.mount_script.specs.declared.command.Command.{Command}
 use Rattle.mount_script.specs.declared.command.Line.{Line}
 use Rattle.mount_script.specs.declared.reply.Reply.{Reply}

@@ -1,10 +1,10 @@
 -- The manifest's text is read as what is made.
-use Rattle.std.proofs.Common.{◌≡◌, ◌≤◌, refl, arith, ℕ, List, [], ◌∷◌, length, length-append, false, Some, None, Ok}
-use Rattle.std.specs.Prelude.{nat_lt, codes, IsUtf8}
-use Rattle.std.proofs.lemmas.Bool.Decides.{nat_tests}
+use Rattle.std.proofs.Common.{◌≡◌, ◌≤◌, refl, arith, ℕ, List, [], ◌∷◌, length, length-append, Some, None, Ok}
+use Rattle.std.specs.Prelude.{codes, IsUtf8}
 use Rattle.std.proofs.lemmas.Fmt.{length-decimal-le}
 use Rattle.std.proofs.lemmas.Str.{is_utf8-from_IsUtf8}
 use Rattle.std.proofs.lemmas.Grind.{div_ceil_times}
+use Rattle.std.proofs.lemmas.Bool.{le-ltb}
 use Rattle.serde_json.specs.Read.{read}
 use Rattle.serde_json.specs.Data.{unsigned}
 use Rattle.serde_json.specs.Written.{compact_text, number_text}
@@ -14,9 +14,6 @@ use Rattle.mount_manifest.specs.Manifest.{Shaped, manifest, shaped, file_facts, 
 use Rattle.mount_manifest.specs.declared.record.NamedSegment.{NamedSegment}
 use Rattle.shard_maker.specs.Manifests.{manifest_value}
 use Rattle.shard_maker.specs.Made.{made_file, made_facts}
-
-below_limit : (limit x : ℕ) → x ≤ limit → nat_lt limit x ≡ false
-below_limit limit x le = grind (arith, nat_tests)
 
 abbrev named : ℕ → NamedSegment
 named docs = record { name = codes "_0"; docs = docs; postings = codes "_0.pst"; stored = None; live = None }
@@ -36,7 +33,7 @@ few_parts size h =
 is_checked : (docs size : ℕ) → docs ≤ 100000 → size ≤ 4294967296 → checked (form docs size) ≡ Ok (made_facts docs size)
 unfolding checked file_limits placed
 is_checked docs size few small =
-    rw (below_limit 1099511623680 size (omega (arith, small)), below_limit 1048576 (sum_with 0 (made_file size)) (few_parts size small), below_limit 16777216 docs (omega (arith, few)))
+    rw (le-ltb 1099511623680 size (omega (arith, small)), le-ltb 1048576 (sum_with 0 (made_file size)) (few_parts size small), le-ltb 16777216 docs (omega (arith, few)))
 
 digits : (n : ℕ) → n ≤ 4294967296 → length (number_text (unsigned n)) ≤ 20
 digits n small = length-decimal-le 20 n (omega arith) (omega (arith, small)) (omega (arith, small))
@@ -52,4 +49,4 @@ pub manifest_is : (docs size : ℕ) (text : List ℕ) → docs ≤ 100000 → si
 manifest_is docs size text few small utf8 is back =
     let short : length text ≤ 16777216 = rw is (omega (arith, short_text docs size few small)) in
     let json : json_of text ≡ Some (manifest_value docs size) = rw (is_utf8-from_IsUtf8 text utf8) back in
-    rw (below_limit 16777216 (length text) short, json, has_form docs size) (is_checked docs size few small)
+    rw (le-ltb 16777216 (length text) short, json, has_form docs size) (is_checked docs size few small)

@@ -42,10 +42,6 @@ rows_had seed docs n e = rows_next seed docs n true e
 pub rows_missed : (seed docs n : ℕ) → is_had seed n ≡ false → rows_below seed docs (n + 1) ≡ rows_below seed docs n
 rows_missed seed docs n e = rows_next seed docs n false e ∙ append-nil (rows_below seed docs n)
 
-pub length-range : (a n : ℕ) → length (range_with_len a n) ≡ n
-length-range a zero = refl
-length-range a (suc n) = ap suc (length-range (a + 1) n)
-
 pub filter_shorter : {X : Type 0} (test : X → Bool) (xs : List X) → length (filter test xs) ≤ length xs
 filter_shorter test [] = omega arith
 filter_shorter test (x ∷ xs) = by (test x) refl (filter_shorter test xs)

@@ -7,6 +7,7 @@ use Rattle.std.proofs.lemmas.Bool.{and_parts, and_from, lt-ltb, leb-true, false�
 use Rattle.std.proofs.lemmas.Bool.Decides.{nat_tests}
 use Rattle.std.proofs.lemmas.List.{length-map}
 use Rattle.std.proofs.lemmas.List.Folds.{list_all-append}
+use Rattle.std.proofs.lemmas.List.FromFn.{length-range_with_len}
 use Rattle.mount_script.specs.Blocks.{one, blocks, put_block}
 use Rattle.mount_script.specs.Commands.{command_of, by_words}
 use Rattle.mount_script.specs.Scripts.{script, lines_of, entries, put_line, put_entry, blocks_of, is_too_long}
@@ -15,7 +16,6 @@ use Rattle.mount_script.specs.declared.command.Line.{Line}
 use Rattle.mount_script.specs.declared.error.ScriptError.TheVariants.{TooLong}
 use Rattle.shard_maker.specs.MadeRows.{digit, term_name}
 use Rattle.shard_maker.specs.Searches.{term_query, pair_query, both, either, first_alone, query_text, mount_line, drawn_query, search_line, search_bytes, script_bytes, script_from}
-use Rattle.shard_maker.proofs.Lists.{length-range}
 
 -- ---- bytes without a blank or a newline
 
@@ -159,7 +159,7 @@ module _ (from terms : ℕ) where
   fits : (n : ℕ) → n ≤ 64 → is_too_long (script_bytes from terms n) ≡ false
   fits n h =
       let searches : List ℕ = flat_map (λ i. search_bytes (query i)) (range_with_len 0 n) in
-      let count = length-range 0 n in
+      let count = length-range_with_len 0 n in
       let short = searches_short (range_with_len 0 n) in
       let size : length (script_bytes from terms n) ≡ 22 + length searches = length-append (codes "mount made mount-made\n") searches in
       let all : length (lines_of (script_bytes from terms n)) ≡ suc (length (map (λ i. line_bytes (query i)) (range_with_len 0 n))) = ap length (all_lines n) in

@@ -8,16 +8,13 @@ use Rattle.std.specs.List.{list_all, range_with_len}
 use Rattle.std.proofs.Math.Nat.{div-lt_iff_lt-mul, mod-lt, div-add-mod, lt-mul-div-succ, mul_comm, mul-le-mul_left}
 use Rattle.std.proofs.lemmas.Bool.{leb-true, leb-false, lt-ltb, le-leb}
 use Rattle.std.proofs.lemmas.Slice.Eq.{bytes_eq-Decides}
+use Rattle.std.proofs.Math.Bool.{or-true}
 use Rattle.simpletext_postings.specs.declared.rows.Row.{Row}
 use Rattle.simpletext_postings.specs.Rows.{is_row, is_small, fits_line, is_later, may_follow, each_follows, are_rows, RiseWithin}
 use Rattle.shard_maker.specs.MadeRows.{term_name, pair_row, is_had, rows_below}
 use Rattle.shard_maker.specs.Made.{AreLimits}
 use Rattle.shard_maker.proofs.Names.{names_rise, escape_short}
 use Rattle.shard_maker.proofs.Lists.{rows_had}
-
-or_true : (b : Bool) → (b || true) ≡ true
-or_true true = refl
-or_true false = refl
 
 -- ---- numbers that are left of a range
 
@@ -70,7 +67,7 @@ module _ (docs : ℕ) (some : 0 < docs) (few : docs ≤ 100000) where
       ∙ ap (λ b. b || is_lt (slice_cmp nat_cmp (term_name (m / docs)) (term_name (x / docs)))) later
   later_by m x rises top false e =
       let above = names_rise (m / docs) (x / docs) (leb-false _ _ e) (term_small x top) in
-      ap (λ b. (bytes_eq (term_name (m / docs)) (term_name (x / docs)) && nat_lt (m % docs) (x % docs)) || b) above ∙ or_true _
+      ap (λ b. (bytes_eq (term_name (m / docs)) (term_name (x / docs)) && nat_lt (m % docs) (x % docs)) || b) above ∙ or-true _
 
   -- the newest row, if there is one, is that of an earlier pair
   abbrev Earlier : List Row → ℕ → Type 0

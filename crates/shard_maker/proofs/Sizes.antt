@@ -5,6 +5,7 @@ use Rattle.std.specs.List.{range_with_len}
 use Rattle.std.specs.Fmt.{decimal}
 use Rattle.std.proofs.lemmas.Fmt.{length-decimal-le}
 use Rattle.std.proofs.Math.Nat.{mod-lt}
+use Rattle.std.proofs.lemmas.List.FromFn.{length-range_with_len}
 use Rattle.text_lines.specs.Escapes.{escape}
 use Rattle.simpletext_postings.specs.declared.rows.Row.{Row}
 use Rattle.simpletext_postings.specs.Rows.{RiseWithin}
@@ -12,7 +13,7 @@ use Rattle.simpletext_postings.specs.Written.{name_line, number_line, is_in_fiel
 use Rattle.shard_maker.specs.MadeRows.{term_name, pair_row, is_had, made_rows}
 use Rattle.shard_maker.specs.Made.{AreLimits}
 use Rattle.shard_maker.proofs.Names.{escape_short}
-use Rattle.shard_maker.proofs.Lists.{filter_shorter, length-range}
+use Rattle.shard_maker.proofs.Lists.{filter_shorter}
 use Rattle.shard_maker.proofs.Rising.{term_small, rise_filter, within_limits}
 
 number_short : (mark : List ℕ) (n : ℕ) → n < 100000 → length (number_line mark n) ≤ length mark + 6
@@ -70,6 +71,6 @@ text_short seed docs terms limits =
     let rise = rise_filter (is_had seed) 0 (docs * terms) (100000 * docs) (omega (arith, within_limits docs terms limits.few_terms)) in
     let short = rows_short docs limits.some_docs limits.few_docs None 0 numbers rise in
     let fewer = filter_shorter (is_had seed) (range_with_len 0 (docs * terms)) in
-    let count = length-range 0 (docs * terms) in
+    let count = length-range_with_len 0 (docs * terms) in
     let all = length-append (rows_lines None (made_rows seed docs terms)) (codes "END\nchecksum 00000000000000000000\n") in
     omega (arith, limits.pairs, short, fewer, count, all)

@@ -6,13 +6,14 @@ use Rattle.std.proofs.Math.Dec.{eqb-suc-zero}
 use Rattle.std.proofs.lemmas.Bool.{le-leb}
 use Rattle.std.proofs.lemmas.List.{drop_all}
 use Rattle.std.proofs.lemmas.List.FromFn.{length-range_with_len}
+use Rattle.std.proofs.Math.Bool.{and-true}
 use Rattle.doc_bits.specs.Places.{zip_with, and_not}
 use Rattle.doc_bits.specs.Counts.{counted}
 use Rattle.query_lang.specs.Trees.{Tree, Trees, no_trees, tree, compound, tree_of, trees_of}
 use Rattle.query_lang.specs.declared.query.Query.{Query}
 use Rattle.shard_search.specs.Matches.{matches, all_match, some_match, count_match, is_empty, needed}
 use Rattle.shard_search.specs.Sets.{each_of}
-use Rattle.shard_search.proofs.SetLemmas.{zip_join, zip_unit, and_is, and_true, drop_is, drop_none, with_count, count_is, plus_zero, combined, map_same}
+use Rattle.shard_search.proofs.SetLemmas.{zip_join, zip_unit, and_is, drop_is, drop_none, with_count, count_is, plus_zero, combined, map_same}
 use Rattle.byte_text.proofs.Lists.{drop_get}
 
 module _ {A C : Type 0} (f : A → Bool → A) (h : A → C → A) (k : Bool → C → C) (e : C) (law : (a : A) (b : Bool) (c : C) → h (f a b) c ≡ h a (k b c)) (unit : (a : A) → h a e ≡ a)
@@ -43,11 +44,11 @@ module _ (has : List ℕ → List ℕ → ℕ → Bool) (queries : List Query) (
   pub keep_more : (whole : List Bool) (q : Query) (set new bits : List Bool) → slice_get queries i ≡ Some q → bits ≡ each_of (matches has (tree_of q)) docs → new ≡ zip_with ◌&&◌ set bits
       → zip_with ◌&&◌ set (each_of (all_match has (trees_of (map tree_of (drop i queries)))) docs) ≡ whole
       → zip_with ◌&&◌ new (each_of (all_match has (trees_of (map tree_of (drop (i + 1) queries)))) docs) ≡ whole
-  keep_more whole = one_more ◌&&◌ ◌&&◌ ◌&&◌ true and_is and_true has (all_match has) (λ q qs. refl) refl queries i docs whole
+  keep_more whole = one_more ◌&&◌ ◌&&◌ ◌&&◌ true and_is and-true has (all_match has) (λ q qs. refl) refl queries i docs whole
 
   pub keep_done : (whole set : List Bool) → length queries ≤ i → length set ≡ docs
       → zip_with ◌&&◌ set (each_of (all_match has (trees_of (map tree_of (drop i queries)))) docs) ≡ whole → set ≡ whole
-  keep_done whole = all_done ◌&&◌ ◌&&◌ ◌&&◌ true and_is and_true has (all_match has) (λ q qs. refl) refl queries i docs whole
+  keep_done whole = all_done ◌&&◌ ◌&&◌ ◌&&◌ true and_is and-true has (all_match has) (λ q qs. refl) refl queries i docs whole
 
   pub drop_more : (whole : List Bool) (q : Query) (set new bits : List Bool) → slice_get queries i ≡ Some q → bits ≡ each_of (matches has (tree_of q)) docs → new ≡ zip_with and_not set bits
       → zip_with and_not set (each_of (some_match has (trees_of (map tree_of (drop i queries)))) docs) ≡ whole
@@ -74,7 +75,7 @@ no_queries (q ∷ queries) = sym (eqb-suc-zero (length queries))
 -- nothing is asked of `should`
 pub none_needed : (set : List Bool) (docs least : ℕ) (count : ℕ → ℕ) → least ≡ 0 → length set ≡ docs → set ≡ zip_with ◌&&◌ set (each_of (λ d. nat_le least (count d)) docs)
 none_needed set docs least count z n =
-    sym (zip_unit ◌&&◌ true and_true set (range_with_len 0 docs) (n ∙ sym (length-range_with_len 0 docs)))
+    sym (zip_unit ◌&&◌ true and-true set (range_with_len 0 docs) (n ∙ sym (length-range_with_len 0 docs)))
     ∙ ap (zip_with ◌&&◌ set) (map_same (λ d. true) (λ d. nat_le least (count d)) (range_with_len 0 docs) (λ d. rw z (sym (le-leb 0 (count d) (omega arith)))))
 
 counted_from : (n low : ℕ) (f : ℕ → ℕ) → zip_with ◌+◌ (replicate n 0) (map f (range_with_len low n)) ≡ map f (range_with_len low n)

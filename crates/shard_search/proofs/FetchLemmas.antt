@@ -5,7 +5,7 @@ use Rattle.std.specs.Option.{ForSome}
 use Rattle.std.specs.List.{range_with_len, list_any}
 use Rattle.std.proofs.lemmas.Bool.{lt-ltb}
 use Rattle.std.proofs.lemmas.Bool.Decides.{eqb_tells}
-use Rattle.shard_search.proofs.SetLemmas.{and_true, and_false}
+use Rattle.std.proofs.Math.Bool.{and-true, and-false}
 use Rattle.shard_search.proofs.FileLemmas.{was_read}
 use Rattle.text_lines.specs.declared.errors.TextError.{TextError}
 use Rattle.text_lines.specs.declared.errors.TextError.TheVariants.{Bad, Bytes}
@@ -36,7 +36,7 @@ any_cases p d x xs false e h = rw e (by_same (eqb_tells x d))
     by_same (inr s) = rw s.0 h
 
 any_filter : (p : ℕ → Bool) (d : ℕ) (xs : List ℕ) → list_any (λ e. e == d) (filter p xs) ≡ (p d && list_any (λ e. e == d) xs)
-any_filter p d [] = sym (and_false (p d))
+any_filter p d [] = sym (and-false (p d))
 any_filter p d (x ∷ xs) = any_cases p d x xs (p x) refl (any_filter p d xs)
 
 range_cases : (n low d : ℕ) → ((low == d) ≡ true) × (low ≡ d) ⊎ ((low == d) ≡ false) × (low ≢ d) → (low ≢ d → list_any (λ e. e == d) (range_with_len (low + 1) n) ≡ true)
@@ -63,7 +63,7 @@ alive_is (Some bits) docs d h n =
     let size = n bits refl in
     any_filter (λ i. slice_index_or bits i false) d (range_with_len 0 (length bits))
     ∙ ap (λ b. slice_index_or bits d false && b) (any_range (length bits) 0 d (omega arith) (omega arith))
-    ∙ and_true (slice_index_or bits d false)
+    ∙ and-true (slice_index_or bits d false)
 
 module _ (bytes : ℕ → List ℕ) (file : ℕ) (s : Segment) (d : ℕ) (documents : List (List StoredField)) (live : Option (List Bool))
     (below : d < s.docs) (read : in_file file (stored (bytes file) s.docs) ≡ Ok documents) (alive : GivesLive (Ok live) s.docs (live_in bytes s.docs s.live)) (size : ForSome live (λ l. length l ≡ s.docs)) where

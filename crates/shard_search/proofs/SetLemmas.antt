@@ -4,6 +4,7 @@ use Rattle.std.specs.Prelude.{◌&&◌, ◌||◌, not, ◌==◌, slice_index_or,
 use Rattle.std.specs.List.{range_with_len}
 use Rattle.std.proofs.lemmas.Bool.{ne_eqb, eq-eqb}
 use Rattle.std.proofs.lemmas.List.FromFn.{length-map-range_with_len, get_or-map-range_with_len}
+use Rattle.std.proofs.Math.Bool.{or-true, and-false, or-false}
 use Rattle.doc_bits.specs.Places.{zip_with, and_not, places_of}
 use Rattle.doc_bits.specs.Counts.{counted}
 use Rattle.doc_bits.proofs.Lists.{length-zip_with}
@@ -29,18 +30,6 @@ with_count b n = (if b then 1 else 0) + n
 pub count_is : (a : ℕ) (b : Bool) (c : ℕ) → counted a b + c ≡ a + with_count b c
 count_is a true c = omega arith
 count_is a false c = omega arith
-
-pub and_true : (a : Bool) → (a && true) ≡ a
-and_true true = refl
-and_true false = refl
-
-pub and_false : (a : Bool) → (a && false) ≡ false
-and_false true = refl
-and_false false = refl
-
-pub or_false : (a : Bool) → (a || false) ≡ a
-or_false true = refl
-or_false false = refl
 
 pub drop_none : (a : Bool) → and_not a false ≡ a
 drop_none true = refl
@@ -109,11 +98,7 @@ pub from_nothing : (docs : ℕ) (g : ℕ → Bool) → zip_with ◌||◌ (replic
 from_nothing docs g = nothing_from docs 0 g
 
 not_it : (b : Bool) (m n : ℕ) → m ≢ n → b ≡ (b || (m == n))
-not_it b m n h = sym (ap (λ x. b || x) (ne_eqb m n h) ∙ or_false b)
-
-or_true : (b : Bool) → (b || true) ≡ true
-or_true true = refl
-or_true false = refl
+not_it b m n h = sym (ap (λ x. b || x) (ne_eqb m n h) ∙ or-false b)
 
 none_of : (k low : ℕ) (set : List Bool) → k < low → set ≡ zip_with ◌||◌ set (map (λ d. k == d) (range_with_len low (length set)))
 none_of k low [] h = refl
@@ -121,7 +106,7 @@ none_of k low (b ∷ set) h = ap₂ ◌∷◌ (not_it b k low (omega arith)) (no
 
 put_from : (set : List Bool) (k low n : ℕ) → n ≡ low + k → slice_set set k true ≡ zip_with ◌||◌ set (map (λ d. n == d) (range_with_len low (length set)))
 put_from [] k low n e = refl
-put_from (b ∷ set) zero low n e = ap₂ ◌∷◌ (sym (ap (λ x. b || x) (eq-eqb n low (omega arith)) ∙ or_true b)) (none_of n (low + 1) set (omega arith))
+put_from (b ∷ set) zero low n e = ap₂ ◌∷◌ (sym (ap (λ x. b || x) (eq-eqb n low (omega arith)) ∙ or-true b)) (none_of n (low + 1) set (omega arith))
 put_from (b ∷ set) (suc k) low n e = ap₂ ◌∷◌ (not_it b n low (omega arith)) (put_from set k (low + 1) n (omega arith))
 
 pub put_is : (set : List Bool) (k docs : ℕ) → length set ≡ docs → slice_set set k true ≡ zip_with ◌||◌ set (each_of (λ d. k == d) docs)
@@ -136,7 +121,7 @@ places_each p docs =
 
 zip_at : (xs ys : List Bool) (i : ℕ) → slice_index_or (zip_with ◌&&◌ xs ys) i false ≡ (slice_index_or xs i false && slice_index_or ys i false)
 zip_at [] ys i = refl
-zip_at (x ∷ xs) [] i = sym (and_false (slice_index_or (x ∷ xs) i false))
+zip_at (x ∷ xs) [] i = sym (and-false (slice_index_or (x ∷ xs) i false))
 zip_at (x ∷ xs) (y ∷ ys) zero = refl
 zip_at (x ∷ xs) (y ∷ ys) (suc i) = zip_at xs ys i
 

@@ -1,6 +1,7 @@
 -- The jobs of all workers, from what holds of each.
 use Rattle.std.proofs.Common.{◌≡◌, ◌∙◌, ◌≤◌, ◌<◌, ◌+◌, ℕ, zero, suc, List, [], ◌∷◌, ◌++◌, length, map, take, drop, get_or, sym, ap, subst, refl, arith, add-zero}
 use Rattle.std.specs.Prelude.{Vec, vec_len, vec_capacity, Option, Some, None}
+use Rattle.std.proofs.lemmas.List.{get_or-map}
 use Rattle.cache_outside.specs.Sources.{SourceView}
 use Rattle.cache_table.specs.Views.{CacheView, PassView}
 use Rattle.index_mounts.specs.Rosters.{RosterView}
@@ -11,7 +12,6 @@ use Rattle.shared_run.specs.Blocks.{JobsRan}
 use Rattle.shared_run.specs.Dealt.{AreRooms, AllDealt, IsDealt}
 use Rattle.shared_run.specs.Shares.{share}
 use Rattle.shared_run.specs.Workers.{JobRan, IsReady}
-use Rattle.shared_run.proofs.Queues.{map_at}
 
 pub map_map : {X Y Z : Type 0} (f : Y → Z) (g : X → Y) (xs : List X) → map f (map g xs) ≡ map (λ x. f (g x)) xs
 map_map f g [] = refl
@@ -70,4 +70,4 @@ filled (suc n) (w ∷ ws) (x ∷ xs) e f = ap (λ (l : List _). w ∷ l) (filled
 -- a number of each, in the list of all
 pub each_number : {J : Type 0} (f : J → ℕ) (h : ℕ → ℕ) (n : ℕ) (ks : List J) → length ks ≡ n → ((k : ℕ) (d : J) → k < n → f (get_or ks k d) ≡ h k) → (i : ℕ) → i < n → get_or (map f ks) i 0 ≡ h i
 each_number f h n [] e each i below = absurd (omega (arith, e, below))
-each_number f h n (j ∷ ks) e each i below = map_at f (j ∷ ks) i j 0 (omega (arith, e, below)) ∙ each i j below
+each_number f h n (j ∷ ks) e each i below = get_or-map f (j ∷ ks) i j 0 (omega (arith, e, below)) ∙ each i j below

@@ -1,12 +1,13 @@
 -- The replies of the workers, taken one after another.
 use Rattle.std.proofs.Common.{◌≡◌, ◌∙◌, ◌<◌, ◌+◌, ℕ, zero, suc, Bool, true, false, cond, List, [], ◌∷◌, ◌++◌, length, map, set, take, get_or, sym, ap, ap₂, subst, ◌≢◌, inl, inr, arith, refl}
 use Rattle.std.specs.Prelude.{◌==◌, ◌%◌}
-use Rattle.std.proofs.lemmas.List.{map-append, append_assoc, append-nil, length-append, length-map, length-take-le, get_or-set_same, get_or-set_other}
+use Rattle.std.proofs.lemmas.List.{map-append, append_assoc, append-nil, length-append, length-map, length-take-le, get_or-set_same, get_or-set_other, get_or-map}
 use Rattle.std.proofs.lemmas.Bool.Decides.{eqb_tells}
+use Rattle.std.proofs.lemmas.Bool.{eq-eqb}
 use Rattle.mount_script.specs.declared.command.Line.{Line}
 use Rattle.mount_script.specs.declared.reply.Reply.{Reply}
 use Rattle.shared_run.specs.Shares.{share}
-use Rattle.shared_run.proofs.Shares.{share_append, share_room, same_is}
+use Rattle.shared_run.proofs.Shares.{share_append, share_room}
 
 -- one item more of what was made of others
 pub mapped_push : {X Y Z : Type 0} (f : X → Y) (g : Z → Y) (qs : List X) (before : List X) (js : List Z) (j : Z) (now : List X) → map f now ≡ map f qs ++ g j ∷ [] → map f qs ≡ map f before ++ map g js
@@ -18,11 +19,6 @@ pub map_set : {X Y : Type 0} (f : X → Y) (xs : List X) (i : ℕ) (x : X) → m
 map_set f [] i x = refl
 map_set f (y ∷ xs) zero x = refl
 map_set f (y ∷ xs) (suc i) x = ap (λ (l : List _). f y ∷ l) (map_set f xs i x)
-
-pub map_at : {X Y : Type 0} (f : X → Y) (xs : List X) (i : ℕ) (x : X) (y : Y) → i < length xs → get_or (map f xs) i y ≡ f (get_or xs i x)
-map_at f [] i x y h = absurd (omega (arith, h))
-map_at f (z ∷ xs) zero x y h = refl
-map_at f (z ∷ xs) (suc i) x y h = map_at f xs i x y (omega (arith, h))
 
 -- parts of lists of one length have one length
 pub share_length : {X Y : Type 0} (w i k : ℕ) (xs : List X) (ys : List Y) → length xs ≡ length ys → length (share w i k xs) ≡ length (share w i k ys)
@@ -42,7 +38,7 @@ module _ (w k i : ℕ) (taken : List Reply) (x : Reply) (long : length taken ≡
   pub share_own : k % w ≡ i → share w i 0 (taken ++ x ∷ []) ≡ share w i 0 taken ++ x ∷ []
   share_own e =
       let h = share_append w i 0 taken (x ∷ []) in
-      h ∙ ap (λ (n : ℕ). share w i 0 taken ++ share w i n (x ∷ [])) (place long) ∙ ap (λ (b : Bool). share w i 0 taken ++ cond b (x ∷ []) []) (same_is (k % w) i e)
+      h ∙ ap (λ (n : ℕ). share w i 0 taken ++ share w i n (x ∷ [])) (place long) ∙ ap (λ (b : Bool). share w i 0 taken ++ cond b (x ∷ []) []) (eq-eqb (k % w) i e)
     where
       place : length taken ≡ k → 0 + length taken ≡ k
       place e = omega (arith, e)
@@ -104,8 +100,8 @@ pub split_next : {Q : Type 0} (items : Q → List Reply) (len : Q → ℕ) (w k 
     → length taken ≡ k → now ≡ taken ++ x ∷ [] → j ≡ k % w → j < length qs → q ≡ get_or qs j q → items q ≡ x ∷ items new → len new + 1 ≡ len q
     → Split w taken all (map items qs) (map len qs) block i → Split w now all (map items (set qs j new)) (map len (set qs j new)) block i
 split_next items len w k j i taken now x all block qs q new long is turn below here first fewer h =
-    let was : get_or (map items qs) j [] ≡ x ∷ items new = map_at items qs j q [] below ∙ ap items (sym here) ∙ first in
-    let many : get_or (map len qs) j 0 ≡ len new + 1 = map_at len qs j q 0 below ∙ ap len (sym here) ∙ sym fewer in
+    let was : get_or (map items qs) j [] ≡ x ∷ items new = get_or-map items qs j q [] below ∙ ap items (sym here) ∙ first in
+    let many : get_or (map len qs) j 0 ≡ len new + 1 = get_or-map len qs j q 0 below ∙ ap len (sym here) ∙ sym fewer in
     let one : j < length (map items qs) = omega (arith, below, length-map qs items) in
     let two : j < length (map len qs) = omega (arith, below, length-map qs len) in
     let base = split_more w k j i taken x all (map items qs) (map len qs) block (items new) (len new) long turn one two was many h in
@@ -126,5 +122,5 @@ short_of w k taken (l ∷ ls) long less =
     let x = get_or block k l in
     let front : length (take k block) ≡ k = length-take-le k block (omega (arith, less)) in
     let same = share_length w (k % w) 0 taken (take k block) (omega (arith, long, front)) in
-    let room = share_room w (k % w) k block x less (same_at block k l x less) (same_is (k % w) (k % w) refl) in
+    let room = share_room w (k % w) k block x less (same_at block k l x less) (eq-eqb (k % w) (k % w) refl) in
     omega (arith, same, room)

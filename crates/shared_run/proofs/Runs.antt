@@ -10,12 +10,13 @@ use Rattle.std.proofs.lemmas.List.{append-nil, take-append-drop}
 use Rattle.std.proofs.lemmas.List.Sums.{sum_by-append}
 use Rattle.byte_text.specs.Counts.{Rose}
 use Rattle.blob_parts.specs.Takes.{SourceLater}
+use Rattle.blob_parts.specs.Reading.{rose_first, rose_then}
 use Rattle.cache_outside.specs.Clocks.{ClockView, times_after}
 use Rattle.cache_outside.specs.Listing.{Listing}
 use Rattle.cache_outside.specs.Sinks.{SinkView, behind}
 use Rattle.cache_outside.specs.Sources.{SourceView}
 use Rattle.cache_reader.specs.Reports.{Grew}
-use Rattle.cache_reader.specs.Through.{bounded_none, bounded_more, rose_first, rose_then}
+use Rattle.cache_reader.specs.Through.{bounded_none, bounded_more}
 use Rattle.region_ranges.specs.declared.keys.Config.{Config}
 use Rattle.cache_table.specs.Calls.{marks}
 use Rattle.cache_table.specs.Views.{CacheView, PassView}
@@ -40,7 +41,7 @@ use Rattle.script_run.specs.declared.ended.Ended.TheVariants.{Done, SinkFault, N
 use Rattle.script_run.proofs.Behind.{written_more, front_more, behind_nothing}
 use Rattle.script_run.proofs.Blocks.{both_told, no_mounts_of, block_makes, block_made, same_mounts, number_cond, mount_mounts, mount_cases}
 use Rattle.script_run.proofs.Rosters.{mounted_with}
-use Rattle.script_run.proofs.Runs.{allowed_length, from_with, after_more, allowed_run, bears_add, faults_more, replies_more, some_more, many_more, clock_more, text_more, front_all, next_blocks, rose_on}
+use Rattle.script_run.proofs.Runs.{allowed_length, from_with, after_more, allowed_run, bears_add, faults_more, replies_more, some_more, many_more, clock_more, text_more, front_all, next_blocks}
 use Rattle.script_run.proofs.Steps.{count_more}
 use Rattle.shared_run.specs.Blocks.{several, source_at, AllTook, BlockDid}
 use Rattle.shared_run.specs.Runs.{outsides, IsAsked, BytesTaken, BlockTaken, AllTaken, NoneRose, IsSharedRun, NoneGone, BlockRan, RunSoFar, WrittenSoFar}
@@ -426,7 +427,7 @@ module _ (e : Cached) (s : RunSetting) where
 
     -- the sink failed
     pub cut_fault : Rose z.faults v.faults → IsSharedRun e s script (outsides a x t) (outsides c v d) p y SinkFault
-    cut_fault rose = cut_run SinkFault (cut_front, rose_on x.faults z.faults v.faults h.faults rose)
+    cut_fault rose = cut_run SinkFault (cut_front, rose_then x.faults z.faults v.faults h.faults rose)
 
     -- memory was wanted for a text
     pub cut_memory : IsSharedRun e s script (outsides a x t) (outsides c v d) p y NoMemory

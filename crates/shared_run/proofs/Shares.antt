@@ -14,12 +14,6 @@ other_is a b h = elim (eqb_tells a b) [
   | inr f ↦ f.0
 ]
 
-pub same_is : (a b : ℕ) → a ≡ b → (a == b) ≡ true
-same_is a b h = elim (eqb_tells a b) [
-  | inl t ↦ t.0
-  | inr f ↦ absurd (f.1 h)
-]
-
 module _ {X : Type 0} (w i : ℕ) where
   with_front : (k n : ℕ) (x : X) (xs ys : List X) → n ≡ k + length (x ∷ xs) → share w i (k + 1) (xs ++ ys) ≡ share w i (k + 1) xs ++ share w i (k + 1 + length xs) ys → (b : Bool)
       → cond b (x ∷ share w i (k + 1) (xs ++ ys)) (share w i (k + 1) (xs ++ ys)) ≡ cond b (x ∷ share w i (k + 1) xs) (share w i (k + 1) xs) ++ share w i n ys

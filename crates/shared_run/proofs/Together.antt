@@ -9,6 +9,7 @@ use Rattle.std.proofs.lemmas.List.Sums.{sum_by-cons, sum_by-append}
 use Rattle.byte_text.specs.Counts.{Rose}
 use Rattle.blob_parts.specs.Reading.{took_none}
 use Rattle.std.proofs.Math.Nat.{le_refl}
+use Rattle.std.proofs.lemmas.Bool.{or_left, or_right}
 use Rattle.cache_outside.specs.Sources.{SourceView}
 use Rattle.cache_door.specs.declared.work.Work.{Work}
 use Rattle.cache_door.specs.Doors.{no_work}
@@ -32,13 +33,6 @@ use Rattle.shared_run.proofs.LinesDone.{answered_grown}
 use Rattle.shared_run.proofs.Parts.{faults_are, answered_all, unmounted_some, unmounted_all}
 use Rattle.shared_run.proofs.Shares.{other_is}
 use Rattle.shared_run.proofs.Sums.{counts, counts_all, none_of_share, Reaches, reaches_both, reaches_none, reaches_grew, grew_reaches}
-
-or_left : (a b : Bool) → a ≡ true → (a || b) ≡ true
-or_left a b e = ap (λ (c : Bool). c || b) e
-
-or_right : (a b : Bool) → b ≡ true → (a || b) ≡ true
-or_right true b e = refl
-or_right false b e = e
 
 or_some : {Z : Type 0} (a b : Bool) → (a || b) ≡ true → (a ≡ true → Z) → (b ≡ true → Z) → Z
 or_some true b e f g = f refl

@@ -5,7 +5,7 @@ use Rattle.std.specs.Ordering.{nat_cmp, is_lt}
 use Rattle.std.specs.Cmp.Lexicographic.{slice_cmp}
 use Rattle.std.specs.List.{list_all, list_any}
 use Rattle.std.specs.Str.{bytes_eq}
-use Rattle.std.proofs.lemmas.Bool.{and_parts, or_parts, and_from, or_left, or_from, or_right}
+use Rattle.std.proofs.lemmas.Bool.{and_parts, or_parts, and_from, or_left, or_from, or_right, not_from_false, not-true}
 use Rattle.std.proofs.lemmas.Bool.Decides.{nat_tests}
 use Rattle.std.proofs.lemmas.List.{map-append, length-append}
 use Rattle.std.proofs.lemmas.List.Folds.{list_all-append, list_any-append}
@@ -94,22 +94,14 @@ differs_back : (f g : List ℕ) (b : Bool) → bytes_eq f g ≡ b → bytes_eq g
 differs_back f g true e h = absurd (true≢false (sym (bytes_same g f (sym (same_bytes f g e))) ∙ h))
 differs_back f g false e h = refl
 
-not_false : (b : Bool) → b ≡ false → not b ≡ true
-not_false true h = absurd (true≢false h)
-not_false false h = refl
-
-not_true : (b : Bool) → not b ≡ true → b ≡ false
-not_true true h = sym h
-not_true false h = refl
-
 differ_more : (fs : List (List ℕ)) (name : List ℕ) → differ fs ≡ true → list_any (bytes_eq name) fs ≡ false → differ (fs ++ name ∷ []) ≡ true
 differ_more [] name d h = refl
 differ_more (f ∷ fs) name d h =
     let ds = and_parts (not (list_any (bytes_eq f) fs)) (differ fs) d in
     let hs = or_parts (bytes_eq name f) (list_any (bytes_eq name) fs) h in
     let own : list_any (bytes_eq f) (name ∷ []) ≡ false = or_from (bytes_eq f name) false (differs_back f name _ refl hs.0) refl in
-    let all : list_any (bytes_eq f) (fs ++ name ∷ []) ≡ false = list_any-append (bytes_eq f) fs (name ∷ []) ∙ or_from _ _ (not_true _ ds.0) own in
-    and_from _ _ (not_false _ all) (differ_more fs name ds.1 hs.1)
+    let all : list_any (bytes_eq f) (fs ++ name ∷ []) ≡ false = list_any-append (bytes_eq f) fs (name ∷ []) ∙ or_from _ _ (not-true _ ds.0) own in
+    and_from _ _ (not_from_false _ all) (differ_more fs name ds.1 hs.1)
 
 -- ---- places
 
@@ -242,7 +234,7 @@ module _ (docs : ℕ) (past : List Form) (name : List ℕ) (at behind : ℕ) (ol
   more_fields = ap length all_fields ∙ length-append old.fields.items (name ∷ [])
 
   field_allowed : is_allowed docs past (Field name) ≡ true
-  field_allowed = and_from _ _ may (not_false _ (subst (λ fs. list_any (bytes_eq name) fs ≡ false) of.fields other))
+  field_allowed = and_from _ _ may (not_from_false _ (subst (λ fs. list_any (bytes_eq name) fs ≡ false) of.fields other))
 
   field_after : IsOpeningOf (Field name ∷ past) new
   field_after = record {

@@ -1,10 +1,10 @@
 -- The lines of rows: each may stand after those before it, and together they have the rows.
 use Rattle.std.proofs.Common.{arith, ◌≡◌, ℕ, suc, ◌+◌, ◌<◌, length, List, [], ◌∷◌, ◌++◌, map, Option, Some, None, Ok, sym, Bool, true, false, not, refl, ap, ap₂, ◌∙◌, subst, true≢false}
-use Rattle.std.specs.Prelude.{◌==◌, ◌&&◌, ◌||◌, nat_lt, nat_le}
+use Rattle.std.specs.Prelude.{◌&&◌, ◌||◌, nat_lt, nat_le}
 use Rattle.std.specs.List.{list_all, list_any}
 use Rattle.std.specs.Str.{bytes_eq}
 use Rattle.std.proofs.Math.Logic.{◌⊎◌, inl, inr}
-use Rattle.std.proofs.lemmas.Bool.{and_parts, or_parts, or_right}
+use Rattle.std.proofs.lemmas.Bool.{and_parts, or_parts, or_right, eq-eqb}
 use Rattle.std.proofs.lemmas.Bool.Decides.{nat_tests}
 use Rattle.std.proofs.lemmas.List.Folds.{list_any-append}
 use Rattle.text_lines.specs.Lines.{nothing}
@@ -72,13 +72,10 @@ abbrev counted_past : List ℕ → List Form → List Form
 counted_past [] past = past
 counted_past (p ∷ ps) past = positions_past (p ∷ ps) (Freq (length (p ∷ ps)) ∷ past)
 
-same_number : (m n : ℕ) → m ≡ n → (m == n) ≡ true
-same_number m n h = grind (arith, nat_tests)
-
 -- as many positions as the frequency end an entry
 positions_end : (ps : List ℕ) (p : ℕ) (past : List Form) → position_count past + 1 + length ps ≡ frequency past
     → ends_entry (positions_past ps (Pos p ∷ past)) ≡ true
-positions_end [] p past h = same_number (position_count past + 1) (frequency past) (omega arith)
+positions_end [] p past h = eq-eqb (position_count past + 1) (frequency past) (omega arith)
 positions_end (q ∷ ps) p past h = positions_end ps q (Pos p ∷ past) (omega arith)
 
 counted_end : (ps : List ℕ) (d : ℕ) (past : List Form) → ends_entry (counted_past ps (Doc d ∷ past)) ≡ true

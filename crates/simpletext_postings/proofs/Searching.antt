@@ -6,7 +6,7 @@ use Rattle.std.specs.Cmp.Lexicographic.{slice_cmp}
 use Rattle.std.specs.List.{list_all, list_any}
 use Rattle.std.specs.Str.{bytes_eq}
 use Rattle.std.proofs.Math.Logic.{◌⊎◌, inl, inr}
-use Rattle.std.proofs.lemmas.Bool.{and_parts, and_from, or_left, or_right}
+use Rattle.std.proofs.lemmas.Bool.{and_parts, and_from, or_left, or_right, lt-ltb, le-ltb}
 use Rattle.std.proofs.lemmas.Bool.Decides.{nat_tests}
 use Rattle.std.proofs.lemmas.List.{get_or-map, length-map, drop_more}
 use Rattle.simpletext_postings.specs.Terms.{TermEntry, entry_of, is_entry}
@@ -54,15 +54,9 @@ not_lower_itself f s (inr a) = not_below_itself s a.1
 
 -- ---- how many stand before a term
 
-less : (k n : ℕ) → k < n → nat_lt k n ≡ true
-less k n h = grind (arith, nat_tests)
-
-not_less : (k n : ℕ) → n ≤ k → nat_lt k n ≡ false
-not_less k n h = grind (arith, nat_tests)
-
 shifted_by : (k n m : ℕ) (b : Bool) → nat_lt k n ≡ b → m ≡ suc n → b ≡ nat_lt (suc k) m
-shifted_by k n m true e h = let lt : k < n = grind (arith, nat_tests) in sym (less (suc k) m (omega (arith, lt, h)))
-shifted_by k n m false e h = let le : n ≤ k = grind (arith, nat_tests) in sym (not_less (suc k) m (omega (arith, le, h)))
+shifted_by k n m true e h = let lt : k < n = grind (arith, nat_tests) in sym (lt-ltb (suc k) m (omega (arith, lt, h)))
+shifted_by k n m false e h = let le : n ≤ k = grind (arith, nat_tests) in sym (le-ltb (suc k) m (omega (arith, le, h)))
 
 shifted : (k n m : ℕ) → m ≡ suc n → nat_lt k n ≡ nat_lt (suc k) m
 shifted k n m h = shifted_by k n m _ refl h
@@ -117,16 +111,16 @@ module _ (number : ℕ) (term : List ℕ) where
       → is_under number term (get_or (p ∷ ps) k d) ≡ nat_lt k (count_under number term (p ∷ ps))
   counted_by p ps zero d true e before lt ih =
       let n : count_under number term (p ∷ ps) ≡ suc (count_under number term ps) = count_by p ps true e in
-      e ∙ sym (less 0 (count_under number term (p ∷ ps)) (omega (arith, n)))
+      e ∙ sym (lt-ltb 0 (count_under number term (p ∷ ps)) (omega (arith, n)))
   counted_by p ps (suc k) d true e before lt ih =
       let n : count_under number term (p ∷ ps) ≡ suc (count_under number term ps) = count_by p ps true e in
       ih k (omega (arith, lt)) ∙ shifted k (count_under number term ps) (count_under number term (p ∷ ps)) n
   counted_by p ps zero d false e before lt ih =
       let n = count_by p ps false e ∙ count_none p ps before e in
-      e ∙ sym (not_less 0 (count_under number term (p ∷ ps)) (omega (arith, n)))
+      e ∙ sym (le-ltb 0 (count_under number term (p ∷ ps)) (omega (arith, n)))
   counted_by p ps (suc k) d false e before lt ih =
       let n = count_by p ps false e ∙ count_none p ps before e in
-      none_at ps k d (none_under p ps before e) (omega (arith, lt)) ∙ sym (not_less (suc k) (count_under number term (p ∷ ps)) (omega (arith, n)))
+      none_at ps k d (none_under p ps before e) (omega (arith, lt)) ∙ sym (le-ltb (suc k) (count_under number term (p ∷ ps)) (omega (arith, n)))
 
   -- a term stands before it just where its number is below the count
   pub counted : (ps : List NumberedTerm) (k : ℕ) (d : NumberedTerm) → rise ps ≡ true → k < length ps

@@ -7,6 +7,7 @@ use Rattle.std.proofs.lemmas.Bool.{and_parts, cases_lt}
 use Rattle.std.proofs.lemmas.Bool.Decides.{nat_tests}
 use Rattle.std.proofs.lemmas.List.{get_or-set_same, get_or-set_other, get_or-replicate, get_or_past, length-replicate, length-set}
 use Rattle.std.proofs.lemmas.List.Folds.{list_any-append}
+use Rattle.std.proofs.Math.Bool.{or-true, or-false}
 use Rattle.text_lines.specs.Words.{is_above}
 use Rattle.doc_bits.specs.Places.{places_of}
 use Rattle.doc_bits.proofs.Lists.{filter-range_same, filter-range_none}
@@ -78,7 +79,7 @@ bound_fits : (doc : Option ℕ) (n : ℕ) → is_above doc n ≡ true → bound 
 bound_fits None n h = omega arith
 bound_fits (Some m) n h = grind (arith, nat_tests)
 
-none_in : (docs i : ℕ) → slice_index_or (replicate docs false) i false ≡ false
+pub none_in : (docs i : ℕ) → slice_index_or (replicate docs false) i false ≡ false
 none_in docs i = elim (cases_lt i docs) [
   | inl within ↦ get_or-replicate docs i false false within
   | inr past ↦ get_or_past (replicate docs false) i false (let long = length-replicate docs false in omega arith)
@@ -90,14 +91,6 @@ empty_set docs bits is = record { rising = tt; bounded = omega arith; same = λ 
 is_in_more : (numbers : List ℕ) (n i : ℕ) (b : Bool) → (n == i) ≡ b → is_in (numbers ++ n ∷ []) i ≡ (is_in numbers i || b)
 is_in_more numbers n i true is = list_any-append (λ k. k == i) numbers (n ∷ []) ∙ rw is refl
 is_in_more numbers n i false is = list_any-append (λ k. k == i) numbers (n ∷ []) ∙ rw is refl
-
-or_true : (b : Bool) → (b || true) ≡ true
-or_true true = refl
-or_true false = refl
-
-or_false : (b : Bool) → (b || false) ≡ b
-or_false true = refl
-or_false false = refl
 
 set_with : (docs : ℕ) (doc : Option ℕ) (numbers : List ℕ) (bits : List Bool) (n : ℕ) → length bits ≡ docs → n < docs → is_above doc n ≡ true
     → IsSetOf docs doc numbers bits → IsSetOf docs (Some n) (numbers ++ n ∷ []) (slice_set bits n true)
@@ -112,10 +105,10 @@ set_with docs doc numbers bits n len within above h = record {
         let e : n ≡ i = grind (arith, nat_tests) in
         let inside : n < length bits = omega (arith, len, within) in
         subst (λ k. slice_index_or (slice_set bits n true) k false ≡ true) e (get_or-set_same bits n true false inside)
-        ∙ sym (is_in_more numbers n i true is ∙ or_true (is_in numbers i))
+        ∙ sym (is_in_more numbers n i true is ∙ or-true (is_in numbers i))
     at i false is =
         let other : i ≢ n = (λ e. absurd (grind (arith, nat_tests, e, is))) in
-        get_or-set_other bits n i true false other ∙ h.same i ∙ sym (is_in_more numbers n i false is ∙ or_false (is_in numbers i))
+        get_or-set_other bits n i true false other ∙ h.same i ∙ sym (is_in_more numbers n i false is ∙ or-false (is_in numbers i))
 
 pub set_places : (docs : ℕ) (doc : Option ℕ) (numbers : List ℕ) (bits : List Bool) → length bits ≡ docs → IsSetOf docs doc numbers bits → places_of bits ≡ numbers
 set_places docs doc numbers bits len h =

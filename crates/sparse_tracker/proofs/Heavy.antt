@@ -1,25 +1,18 @@
 -- A ticket or a gap that weighs something is there.
 use Rattle.std.proofs.Common.{arith, ◌≡◌, ◌<◌, ℕ, zero, suc, Bool, true, List, [], ◌∷◌, sym, subst, ◌∙◌, ap, inl, inr, refl, Some}
 use Rattle.std.specs.Prelude.{◌==◌, slice_get, find}
-use Rattle.std.proofs.lemmas.Bool.{cases_Bool, cases_lt, false≢true}
-use Rattle.std.proofs.lemmas.Bool.Decides.{nat_tests}
+use Rattle.std.proofs.lemmas.Bool.{cases_Bool, cases_lt, false≢true, eq-eqb, eqb-true}
 use Rattle.sparse_tracker.specs.declared.gaps.OpenGap.{OpenGap}
 use Rattle.sparse_tracker.specs.declared.tickets.Ticket.{Ticket}
 use Rattle.sparse_tracker.specs.ByteStates.{Tracker, gap_of, ticket_of}
 use Rattle.sparse_tracker.specs.Weights.{total, by_ticket, by_gap, one_at, one_each, tickets_weigh, gaps_weigh}
 use Rattle.sparse_tracker.specs.Kept.{IsGood}
 
-same_is : (a b : ℕ) → a ≡ b → (a == b) ≡ true
-same_is a b e = grind (arith, nat_tests)
-
-is_same : (a b : ℕ) → (a == b) ≡ true → a ≡ b
-is_same a b e = grind (arith, nat_tests)
-
 at_one : (a b c x y z : ℕ) → 0 < one_at a b c x y z → (x ≡ a) × (y ≡ b) × (z ≡ c)
 at_one a b c x y z h = elim (cases_Bool (x == a)) [
   | inl i ↦ elim (cases_Bool (y == b)) [
     | inl j ↦ elim (cases_Bool (z == c)) [
-      | inl k ↦ (is_same x a i, is_same y b j, is_same z c k)
+      | inl k ↦ (eqb-true x a i, eqb-true y b j, eqb-true z c k)
       | inr k ↦ absurd (let g = rw (i, j, k) at h in omega (arith, g))
     ]
     | inr j ↦ absurd (let g = rw (i, j) at h in omega (arith, g))
@@ -59,8 +52,8 @@ pub ticket_found : (n start end : ℕ) (t : Tracker) → IsGood t → 0 < ticket
 ticket_found n start end t good some =
     let x = heavy (by_ticket (one_at n start end)) t.tickets some in
     let k = at_one n start end x.1.0.number x.1.0.start x.1.0.end x.1.2 in
-    let y = first_is (λ (q : Ticket). q.number == n) t.tickets x.0 x.1.0 x.1.1 (same_is x.1.0.number n k.0) in
-    let m = is_same y.1.0.number n y.1.3 in
+    let y = first_is (λ (q : Ticket). q.number == n) t.tickets x.0 x.1.0 x.1.1 (eq-eqb x.1.0.number n k.0) in
+    let m = eqb-true y.1.0.number n y.1.3 in
     let i = good.numbers y.0 x.0 y.1.0 x.1.0 y.1.2 x.1.1 (m ∙ sym k.0) in
     let P : ℕ → Type 0 = λ q. slice_get t.tickets q ≡ Some y.1.0 in
     let same : y.1.0 ≡ x.1.0 = (let g = subst P i y.1.2 in let h = x.1.1 in cc) in
@@ -70,8 +63,8 @@ pub gap_found : (id upto end : ℕ) (t : Tracker) → IsGood t → 0 < gaps_weig
 gap_found id upto end t good some =
     let x = heavy (by_gap (one_at id upto end)) t.gaps some in
     let k = at_one id upto end x.1.0.id x.1.0.upto x.1.0.end x.1.2 in
-    let y = first_is (λ (q : OpenGap). q.id == id) t.gaps x.0 x.1.0 x.1.1 (same_is x.1.0.id id k.0) in
-    let m = is_same y.1.0.id id y.1.3 in
+    let y = first_is (λ (q : OpenGap). q.id == id) t.gaps x.0 x.1.0 x.1.1 (eq-eqb x.1.0.id id k.0) in
+    let m = eqb-true y.1.0.id id y.1.3 in
     let i = good.ids y.0 x.0 y.1.0 x.1.0 y.1.2 x.1.1 (m ∙ sym k.0) in
     let P : ℕ → Type 0 = λ q. slice_get t.gaps q ≡ Some y.1.0 in
     let same : y.1.0 ≡ x.1.0 = (let g = subst P i y.1.2 in let h = x.1.1 in cc) in

@@ -2,7 +2,7 @@
 use Rattle.std.proofs.Common.{arith, ◌≡◌, ◌≢◌, ◌<◌, ◌≤◌, ◌+◌, ◌-◌, ℕ, zero, suc, Bool, true, false, List, [], ◌∷◌, sym, ◌∙◌, ap, inl, inr, refl, length, drop, take, get_or, Option, Some, None, length-drop, length-take}
 use Rattle.std.specs.Prelude.{◌&&◌, nat_lt, max, not, map, reverse, if◌then◌else◌, slice_get, option_map, ◌⊎◌}
 use Rattle.std.specs.List.{prefix_len}
-use Rattle.std.proofs.lemmas.Bool.{cases_Bool, cases_lt}
+use Rattle.std.proofs.lemmas.Bool.{cases_Bool, cases_lt, not-true}
 use Rattle.std.proofs.lemmas.Bool.Decides.{nat_tests}
 use Rattle.std.proofs.lemmas.List.{get_or-drop, get_or-take, get_or-reverse, length-reverse, length-map}
 use Rattle.std.proofs.lemmas.List.Sums.{prefix_len-le-length, prefix_len_passes, prefix_len_stops}
@@ -24,10 +24,6 @@ pub record IsRun (free : List Bool) (start from : ℕ) (run : ByteRange) : Type 
   pub right : run.end < length free → get_or free run.end false ≡ false
   pub before : (i : ℕ) → max from start ≤ i → i < at → get_or free i false ≡ false
 
-pub flip : (b : Bool) → not b ≡ true → b ≡ false
-flip true h = absurd (cc)
-flip false h = refl
-
 pub flop : (b : Bool) → not b ≡ false → b ≡ true
 flop true h = refl
 flop false h = absurd (cc)
@@ -41,7 +37,7 @@ module _ (free : List Bool) (start from : ℕ) where
       let p = prefix_len_passes not (drop (max from start) free) (i - max from start) false (omega arith) in
       let s : max from start + (i - max from start) ≡ i = omega arith in
       let q = get_or-drop (max from start) free (i - max from start) false in
-      flip (get_or free i false) (ap (λ (k : ℕ). not (get_or free k false)) (sym s) ∙ ap not (sym q) ∙ p)
+      not-true (get_or free i false) (ap (λ (k : ℕ). not (get_or free k false)) (sym s) ∙ ap not (sym q) ∙ p)
 
   reached : (n : ℕ) → n ≡ prefix_len not (drop (max from start) free) → max from start + n < length free → get_or free (max from start + n) false ≡ true
   reached n e h =

@@ -8,6 +8,7 @@ use Rattle.memchr.specs.Find.{Nowhere, Passes, is_byte2}
 use Rattle.text_lines.specs.Escapes.{newline, backslash}
 use Rattle.text_lines.specs.Lines.{Taken, Cut, cut, ended, in_front_of}
 use Rattle.text_lines.specs.Walks.{taken, then_lines, front, front_of, cut_after, first_size, Lands}
+use Rattle.directory_input.proofs.Slices.{zero_add}
 
 abbrev only : List ℕ → ℕ → Cut
 only content size = record { lines = []; tail = taken content size }
@@ -22,9 +23,6 @@ front_twice c d k n [] tail =
 front_twice c d k n (l ∷ ls) tail =
     let e : k + (n + l.size) ≡ k + n + l.size = omega arith in
     ap₂ (leading ls tail) (sym (append_assoc c d l.content)) e
-
-zero_add : (n : ℕ) → 0 + n ≡ n
-zero_add n = omega arith
 
 front_none : (ls : List Taken) (tail : Taken) → front_of [] 0 ls tail ≡ record { lines = ls; tail = tail }
 front_none [] tail = ap (only tail.content) (zero_add tail.size)

@@ -4,7 +4,6 @@ use Rattle.std.specs.Prelude.{◌==◌, ◌||◌}
 use Rattle.std.proofs.lemmas.List.{drop_more, length-drop}
 use Rattle.std.proofs.Math.Seq.{take-length, drop-length}
 use Rattle.std.proofs.Math.ListN.{drop_of_length-le}
-use Rattle.std.proofs.lemmas.Bool.Decides.{nat_tests}
 use Rattle.text_lines.proofs.Cuts.{IsPlain, neither}
 use Rattle.text_lines.specs.Escapes.{put_front, escape, escaped_byte, unescape, unescape_after, newline, backslash}
 
@@ -15,9 +14,6 @@ put_front-put_front s t (Some r) = ap (λ (x : List ℕ). Some x) (sym (append_a
 pub put_front-nil : (o : Option (List ℕ)) → put_front [] o ≡ o
 put_front-nil None = refl
 put_front-nil (Some r) = refl
-
-differs : (a b : ℕ) → ¬ (a ≡ b) → (a == b) ≡ false
-differs a b h = grind (arith, nat_tests)
 
 byte_undone : (b : ℕ) (rest : List ℕ) (slash line : Bool) → (b == backslash) ≡ slash → (b == newline) ≡ line
     → unescape (escaped_byte b ++ rest) ≡ put_front (b ∷ []) (unescape rest)

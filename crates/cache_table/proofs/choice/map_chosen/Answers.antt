@@ -1,4 +1,3 @@
-use Rattle.std.proofs.Common.{◌≡◌}
 use Rattle.region_ranges.specs.Keys.{tag_of as key_tag}
 use Rattle.cache_table.proofs.Finds.{not_again, none_at}
 use Rattle.cache_table.proofs.choice.map_chosen.Goals as goal

@@ -1,8 +1,8 @@
 use Rattle.std.proofs.Common.{arith, ◌≡◌, ◌∙◌, ◌<◌, ◌+◌, ◌∷◌, [], ℕ, length, map, get_or, sym, ap, mod-lt}
 use Rattle.std.specs.Prelude.{◌%◌}
 use Rattle.std.specs.Vec.Iter.{into_iter_items, into_iter_len}
-use Rattle.std.proofs.lemmas.List.{length-append, length-set}
-use Rattle.shared_run.proofs.Queues.{split_next, split_all, map_at, short_of}
+use Rattle.std.proofs.lemmas.List.{length-append, length-set, get_or-map}
+use Rattle.shared_run.proofs.Queues.{split_next, split_all, short_of}
 use Rattle.shared_run.proofs.gather.in_order.Goals as goal
 
 pub unreachable-requires : goal.unreachable-requires
@@ -18,7 +18,7 @@ unreachable-requires c =
     let below : k % c.len-workers.result < length qs = omega (arith, turn, low, i.count) in
     let own = (i.split (k % n) low).count in
     let short = short_of n k c.loop-k.replies.items c.args.block.now i.many c.loop-k-test.true in
-    let at = ap (λ (m : ℕ). get_or (map into_iter_len qs) m 0) (sym turn) ∙ map_at into_iter_len qs (k % c.len-workers.result) now 0 below ∙ ap into_iter_len (sym c.index_mut.ensures.value) in
+    let at = ap (λ (m : ℕ). get_or (map into_iter_len qs) m 0) (sym turn) ∙ get_or-map into_iter_len qs (k % c.len-workers.result) now 0 below ∙ ap into_iter_len (sym c.index_mut.ensures.value) in
     let some : 0 < into_iter_len now = omega (arith, own, short, at) in
     let never = c.in_default.ensures.variant.1 some in
     absurd (cc)

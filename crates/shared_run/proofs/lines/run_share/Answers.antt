@@ -4,12 +4,13 @@ use Rattle.mount_script.specs.declared.reply.Reply.{Reply}
 use Rattle.cache_reader.specs.Going.{moment}
 use Rattle.cache_reader.specs.Reports.{no_bytes}
 use Rattle.std.specs.Prelude.{◌&&◌}
+use Rattle.std.proofs.lemmas.Bool.{eq-eqb}
 use Rattle.script_run.specs.Lines.{cached}
 use Rattle.script_run.specs.Shelves.{ShelvesFit}
 use Rattle.script_run.proofs.KeptShelves.{fits_new}
 use Rattle.shared_run.specs.Shares.{share}
 use Rattle.shared_run.specs.Workers.{LinesDid}
-use Rattle.shared_run.proofs.Shares.{no_mount_at, share_more, share_same, share_room, same_is, other_is}
+use Rattle.shared_run.proofs.Shares.{no_mount_at, share_more, share_same, share_room, other_is}
 use Rattle.shared_run.proofs.LinesDone.{no_lines, line_did, did_as}
 use Rattle.shared_run.proofs.lines.run_share.Goals as goal
 use Rattle.shared_run.proofs.lines.run_share.Goals.{then-k-workers, else-k-workers}
@@ -36,7 +37,7 @@ worker_line-reply-requires-clause-shelves g c =
 
 pub put-requires : goal.put-requires
 put-requires g c =
-    let below = share_room c.args.workers c.args.worker c.loop-k.k c.args.block.now c.index-block-k.result c.loop-k-test.true c.index-block-k.is (same_is _ _ c.if-k-workers.true) in
+    let below = share_room c.args.workers c.args.worker c.loop-k.k c.args.block.now c.index-block-k.result c.loop-k-test.true c.index-block-k.is (eq-eqb _ _ c.if-k-workers.true) in
     omega (arith, below, c.loop-k.invariant.len, c.loop-k.invariant.room)
 
 pub loop-k-preserved : goal.loop-k-preserved
@@ -56,7 +57,7 @@ loop-k-preserved g c =
           let told = w.worker_line-reply.ensures in
           let later = g.met.D.CacheDoor.later c.loop-k.door w.worker_line-reply.new.door told.stays in
           let z = moment (g.S.BlobSource.view w.worker_line-reply.new.source) (g.D.CacheDoor.view w.worker_line-reply.new.door) in
-          let next = share_more c.args.workers c.args.worker k block l c.loop-k-test.true w.index-block-k.is (same_is _ _ w.if-k-workers.true) in
+          let next = share_more c.args.workers c.args.worker k block l c.loop-k-test.true w.index-block-k.is (eq-eqb _ _ w.if-k-workers.true) in
           let did = line_did g.A.Archive.tells g.A.Archive.blobs c.args.config.now r c.args.now no_bytes y z part c.loop-k.replies.items l x p i.did (g.met.D.CacheDoor.later c.args.door.now c.loop-k.door i.stays).frames_tell later.seen
           told.reply told.mark told.kind told.source told.works in
           rw (w.replies-is, w.source-is, w.door-is, w.shelves-is) (record {

@@ -1,11 +1,11 @@
 use Rattle.std.proofs.Common.{arith, ◌≡◌, ◌∙◌, ◌<◌, ◌++◌, ◌∷◌, [], false, List, length, map, set, sym, ap, subst}
-use Rattle.std.proofs.lemmas.List.{length-map}
+use Rattle.std.proofs.lemmas.List.{length-map, get_or-map}
 use Rattle.mount_script.specs.declared.command.Line.{Line}
 use Rattle.mount_script.specs.declared.reply.Reply.{Reply}
 use Rattle.script_run.specs.Blocks.{Forgotten}
 use Rattle.script_run.specs.Lines.{cached, is_shared}
 use Rattle.script_run.proofs.Blocks.{block_single}
-use Rattle.shared_run.proofs.Queues.{map_set, map_at}
+use Rattle.shared_run.proofs.Queues.{map_set}
 use Rattle.shared_run.proofs.Runs.{mount_ran, block_ran, no_mounts_in, replies_length}
 use Rattle.shared_run.proofs.run.next_block.Goals as goal
 
@@ -23,7 +23,7 @@ returns-in-Mount-clause-ran g c =
     mount_ran g.A.Archive.tells c.args.cache.now.about.tells g.A.Archive.blobs c.args.config.now c.args.workers c.args.config.now.regions c.args.block.now l _ _ c.args.roster.now c.mount_between-reply.new.roster
     x c.put.new.replies.items before (map view (set sources 0 c.mount_between-reply.new.source)) (view c.index_mut-source.result.now) (view c.mount_between-reply.new.source) c.args.pass.now c.mount_between-reply.new.pass
     (block_single c.args.block.now l c.requires.block c.index-block-0.is single) command (c.put.ensures.items ∙ ap (λ (xs : List Reply). xs ++ x ∷ []) c.in_ok-replies.ensures.items)
-    (omega (arith, some, length-map sources view)) (ap view c.index_mut-source.ensures.value ∙ sym (map_at view sources 0 c.index_mut-source.result.now _ some)) (map_set view sources 0 c.mount_between-reply.new.source)
+    (omega (arith, some, length-map sources view)) (ap view c.index_mut-source.ensures.value ∙ sym (get_or-map view sources 0 c.index_mut-source.result.now _ some)) (map_set view sources 0 c.mount_between-reply.new.source)
     (omega (arith, c.requires.workers.0)) c.requires.none told.reply told.kind told.roster told.source told.unmounted told.decays told.clears told.stored told.turned
 
 pub run_block-requires-clause-lines : goal.run_block-requires-clause-lines

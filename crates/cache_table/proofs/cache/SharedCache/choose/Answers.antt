@@ -1,4 +1,4 @@
-use Rattle.std.proofs.Common.{arith, ◌≡◌, ◌<◌, ◌+◌, ◌∙◌, ℕ, List, sym, subst, ap, take, Some, inr}
+use Rattle.std.proofs.Common.{arith, ◌≡◌, ℕ, List, subst, ap, take, Some, inr}
 use Rattle.std.specs.Prelude.{slice_get}
 use Rattle.freq_lists.specs.Lists.{times}
 use Rattle.cache_policy.specs.Policy.{PolicyView}

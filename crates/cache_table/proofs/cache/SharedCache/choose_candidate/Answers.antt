@@ -1,6 +1,5 @@
-use Rattle.std.proofs.Common.{arith, ◌≡◌, ◌<◌, ◌+◌, ◌∙◌, ℕ, sym, subst, ap, take, Some, None, []}
+use Rattle.std.proofs.Common.{arith, ◌≡◌, ◌+◌, ◌∙◌, sym, take, Some, []}
 use Rattle.std.specs.Prelude.{slice_get}
-use Rattle.freq_lists.specs.Lists.{times_in}
 use Rattle.cache_policy.specs.Ageing.{candidates}
 use Rattle.cache_door.proofs.Walks.{candidate_left}
 use Rattle.cache_table.proofs.Chosen.{found_more, found_get, found_end, scanned_on}

@@ -1,4 +1,4 @@
-use Rattle.std.proofs.Common.{arith, ◌≡◌, ◌<◌, ◌+◌, ◌∙◌, ℕ, sym, ap, suc, refl, take, drop, Some}
+use Rattle.std.proofs.Common.{arith, ◌≡◌, ◌∙◌, sym, ap, suc, take, drop, Some}
 use Rattle.region_ranges.specs.Keys.{tag_of as key_tag}
 use Rattle.freq_lists.specs.Lists.{head}
 use Rattle.cache_policy.specs.Policy.{PolicyView, leave}

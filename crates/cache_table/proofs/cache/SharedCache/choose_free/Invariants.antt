@@ -1,5 +1,5 @@
 -- the free regions before this one were found held, and are leaving
-use Rattle.std.proofs.Common.{◌≡◌, ℕ, List, length, take, None}
+use Rattle.std.proofs.Common.{◌≡◌, ℕ, length, take, None}
 use Rattle.cache_table.specs.Rule.{Governs}
 use Rattle.cache_table.specs.Calls.{InCache, FoundAll, PassedOver}
 use Rattle.cache_table.specs.Entries.{Scanned}

@@ -1,4 +1,4 @@
-use Rattle.std.proofs.Common.{arith, ◌≡◌, ◌<◌, ◌+◌, ◌∙◌, ℕ, sym, subst, length}
+use Rattle.std.proofs.Common.{arith, ◌<◌, ◌∙◌, ℕ, sym, subst, length}
 use Rattle.freq_lists.specs.Lists.{times_in}
 use Rattle.cache_table.proofs.Settles.{leaving_times, leaving_near}
 use Rattle.cache_table.proofs.Chosen.{found_place, scanned_on}

@@ -1,6 +1,4 @@
-use Rattle.std.proofs.Common.{ℕ, Option}
-use Rattle.std.specs.Prelude.{IfOk}
-use Rattle.cache_door.specs.declared.answers.Entered.{Entered}
+use Rattle.std.proofs.Common.{ℕ}
 use Rattle.cache_table.specs.Calls.{PassedOver}
 use Rattle.cache_table.specs.Entries.{EntersBy, EntersChosen, IsFull, FindsNoRoom}
 use Rattle.cache_table.proofs.Chosen.{enters_other, finds_no_room}

@@ -1,4 +1,3 @@
-use Rattle.std.proofs.Common.{Some}
 use Rattle.region_ranges.specs.Keys.{tag_of as key_tag}
 use Rattle.cache_table.proofs.Finds.{not_again}
 use Rattle.cache_table.proofs.cache.SharedCache.enter_known.Goals as goal

@@ -1,8 +1,6 @@
-use Rattle.std.proofs.Common.{rules, arith, ◌≡◌, ◌∙◌, sym, ap, subst, ℕ, ◌+◌, refl, Some}
-use Rattle.region_ranges.specs.declared.ranges.ByteRange.{ByteRange}
-use Rattle.region_cell.specs.Cells.{CellView, CellMetadata, claim_run}
+use Rattle.std.proofs.Common.{◌≡◌, ◌∙◌, sym, ap, ◌+◌, refl, Some}
+use Rattle.region_cell.specs.Cells.{CellView, CellMetadata}
 use Rattle.cache_door.specs.declared.hold.Hold.{Hold}
-use Rattle.cache_door.specs.Machine.{hold_on}
 use Rattle.cache_table.proofs.Turned.{moves_as, moves_claimed, some_run}
 use Rattle.cache_table.proofs.cache.SharedCache.enter_mapped.Goals as goal
 

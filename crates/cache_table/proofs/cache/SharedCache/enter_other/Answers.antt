@@ -1,12 +1,11 @@
-use Rattle.std.proofs.Common.{arith, ◌≡◌, ◌<◌, ◌+◌, ◌*◌, ◌∙◌, ℕ, List, sym, subst, ap, refl, Option, Some, None}
+use Rattle.std.proofs.Common.{arith, ◌≡◌, ◌<◌, ◌+◌, ◌∙◌, ℕ, List, sym, subst, ap, refl, Some}
 use Rattle.std.specs.Prelude.{◌==◌, if◌then◌else◌, IsTrue}
 use Rattle.atomic_table.specs.Table.{rest}
 use Rattle.region_ranges.specs.Keys.{tag_of as key_tag}
 use Rattle.cache_policy.specs.Policy.{PolicyView, tag_at}
 use Rattle.region_cell.specs.Cells.{CellView, CellMetadata, claim_run}
 use Rattle.cache_door.specs.declared.hold.Hold.{Hold}
-use Rattle.cache_table.specs.declared.home.Home.{Home}
-use Rattle.cache_table.specs.Plays.{Changes, popped}
+use Rattle.cache_table.specs.Plays.{popped}
 use Rattle.cache_table.specs.Calls.{Stays-on}
 use Rattle.cache_table.specs.Entries.{IsChoice, blank}
 use Rattle.cache_table.proofs.Turned.{moves_as, moves_fresh, some_run}

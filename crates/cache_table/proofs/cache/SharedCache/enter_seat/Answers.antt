@@ -1,8 +1,6 @@
-use Rattle.std.proofs.Common.{ℕ, ◌≡◌, ◌∙◌, sym, ap, refl, Option, Some, Ok}
-use Rattle.cache_policy.specs.Policy.{PolicyView}
-use Rattle.cache_table.specs.Calls.{IsHeld}
+use Rattle.std.proofs.Common.{◌∙◌, sym, ap, Ok}
 use Rattle.cache_table.specs.Entries.{EntersBy}
-use Rattle.cache_table.proofs.Entered.{some_is, left_as, by_as, not_gone, room_or_gone, held_stays}
+use Rattle.cache_table.proofs.Entered.{some_is, left_as, by_as}
 use Rattle.cache_table.proofs.cache.SharedCache.enter_seat.Goals as goal
 
 pub returns-in-Err-clause-memory : goal.returns-in-Err-clause-memory
