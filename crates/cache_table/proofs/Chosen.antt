@@ -19,7 +19,7 @@ use Rattle.cache_door.specs.declared.answers.Entered.{Entered}
 use Rattle.cache_door.specs.declared.answers.Entered.TheVariants.{Held, NoRoom}
 use Rattle.cache_table.specs.Abouts.{About}
 use Rattle.cache_table.specs.declared.view.View.{View}
-use Rattle.cache_table.specs.Rule.{Governs, count_in}
+use Rattle.cache_table.specs.Rule.{place, Governs, count_in}
 use Rattle.cache_table.specs.Calls.{PassedOver, FoundAll, Stays-same, Stays-on}
 use Rattle.cache_table.specs.Entries.{Scanned, differs, Unmapped, IsChoice, IsFull, EntersChosen, EntersBy, FindsNoRoom, blank}
 use Rattle.cache_table.proofs.Settles.{is_region}
@@ -59,13 +59,13 @@ pub found_nothing : (found : List ℕ) → FoundAll [] found
 found_nothing found r h = absurd (omega arith)
 
 pub found_later : (xs old new : List ℕ) → ((x : ℕ) → count_in x old ≤ count_in x new) → FoundAll xs old → FoundAll xs new
-found_later xs old new more all r h = omega (arith, all r h, more (r + 1))
+found_later xs old new more all r h = omega (arith, all r h, more (place r))
 
-pub found_more : (xs old new : List ℕ) (r : ℕ) → ((x : ℕ) → count_in x old ≤ count_in x new) → FoundAll xs old → 0 < count_in (r + 1) new → FoundAll (xs ++ r ∷ []) new
+pub found_more : (xs old new : List ℕ) (r : ℕ) → ((x : ℕ) → count_in x old ≤ count_in x new) → FoundAll xs old → 0 < count_in (place r) new → FoundAll (xs ++ r ∷ []) new
 found_more xs old new r more all here j h = elim (cases_lt 0 (times_in j xs)) [
-  | inl l ↦ omega (arith, all j l, more (j + 1))
+  | inl l ↦ omega (arith, all j l, more (place j))
   | inr g ↦ elim (cases_eq r j) [
-    | inl e ↦ subst (λ (n : ℕ). 0 < count_in (n + 1) new) e here
+    | inl e ↦ subst (λ (n : ℕ). 0 < count_in (place n) new) e here
     | inr d ↦ absurd (let t = times_append j xs (r ∷ []) in let u = rw (ne_eqb r j d) at t in omega (arith, u, h, g))
   ]
 ]
@@ -96,7 +96,7 @@ place_more n [] h = absurd (omega arith)
 place_more zero (x ∷ xs) h = refl
 place_more (suc n) (x ∷ xs) h = ap (λ (l : List ℕ). x ∷ l) (place_more n xs (omega arith))
 
-pub found_place : (n r : ℕ) (xs old new : List ℕ) → n < length xs → r ≡ get_or xs n 0 → ((x : ℕ) → count_in x old ≤ count_in x new) → FoundAll (take n xs) old → 0 < count_in (r + 1) new → FoundAll (take (n + 1) xs) new
+pub found_place : (n r : ℕ) (xs old new : List ℕ) → n < length xs → r ≡ get_or xs n 0 → ((x : ℕ) → count_in x old ≤ count_in x new) → FoundAll (take n xs) old → 0 < count_in (place r) new → FoundAll (take (n + 1) xs) new
 found_place n r xs old new lt is more all here =
     let e : n + 1 ≡ suc n = omega arith in
     subst (λ (k : ℕ). FoundAll (take k xs) new) (sym e) (subst (λ (l : List ℕ). FoundAll l new) (sym (place_more n xs lt ∙ ap (λ (y : ℕ). take n xs ++ y ∷ []) (sym is))) (found_more (take n xs) old new r more all here))
@@ -148,32 +148,32 @@ was_front n p q r over h = let e = sym (ap (λ (z : PolicyView). head z.free) ov
 abbrev Reached : List ℕ → ℕ → List ℕ → Type 0
 Reached xs r found = (j : ℕ) × (slice_get xs j ≡ Some r) × FoundAll (take j xs) found
 
-one_more : (x r : ℕ) (xs found : List ℕ) → 0 < count_in (x + 1) found → Reached xs r found → Reached (x ∷ xs) r found
+one_more : (x r : ℕ) (xs found : List ℕ) → 0 < count_in (place x) found → Reached xs r found → Reached (x ∷ xs) r found
 one_more x r xs found here k = (
   suc k.0,
   k.1,
   λ n h. elim (cases_eq x n) [
-    | inl w ↦ subst (λ (m : ℕ). 0 < count_in (m + 1) found) w here
+    | inl w ↦ subst (λ (m : ℕ). 0 < count_in (place m) found) w here
     | inr d ↦ k.2 n (let u = rw (ne_eqb x n d) at h in omega (arith, u))
   ],
 )
 
-first_found : (x : ℕ) (xs found : List ℕ) → FoundAll (x ∷ xs) found → 0 < count_in (x + 1) found
+first_found : (x : ℕ) (xs found : List ℕ) → FoundAll (x ∷ xs) found → 0 < count_in (place x) found
 first_found x xs found all = all x (rw (eq-eqb x x refl) (omega arith))
 
 -- among all, from those without it
-back : (xs : List ℕ) (s i r : ℕ) (found : List ℕ) → slice_get (without s xs) i ≡ Some r → FoundAll (take i (without s xs)) found → 0 < count_in (s + 1) found → Reached xs r found
+back : (xs : List ℕ) (s i r : ℕ) (found : List ℕ) → slice_get (without s xs) i ≡ Some r → FoundAll (take i (without s xs)) found → 0 < count_in (place s) found → Reached xs r found
 back [] s i r found e all here = (i, e, all)
 back (x ∷ xs) s zero r found e all here = elim (cases_eq x s) [
   | inl is ↦
       let t = eq-eqb x s is in let e' = rw t at e in
-      one_more x r xs found (subst (λ (m : ℕ). 0 < count_in (m + 1) found) (sym is) here) (back xs s zero r found e' (found_nothing found) here)
+      one_more x r xs found (subst (λ (m : ℕ). 0 < count_in (place m) found) (sym is) here) (back xs s zero r found e' (found_nothing found) here)
   | inr ne ↦ let f = ne_eqb x s ne in let e' = rw f at e in (0, e', found_nothing found)
 ]
 back (x ∷ xs) s (suc i) r found e all here = elim (cases_eq x s) [
   | inl is ↦
       let t = eq-eqb x s is in let e' = rw t at e in let all' = rw t at all in
-      one_more x r xs found (subst (λ (m : ℕ). 0 < count_in (m + 1) found) (sym is) here) (back xs s (suc i) r found e' all' here)
+      one_more x r xs found (subst (λ (m : ℕ). 0 < count_in (place m) found) (sym is) here) (back xs s (suc i) r found e' all' here)
   | inr ne ↦
       let f = ne_eqb x s ne in let e' = rw f at e in let all' = rw f at all in
       one_more x r xs found (first_found x (take i (without s xs)) found all') (back xs s i r found e' (λ n h. all' n (omega arith)) here)
@@ -192,7 +192,7 @@ choice_before law p o s r tag found is mapped (inl h) = elim (cases_eq r s) [
 ]
 choice_before law p o s r tag found is mapped (inr (i, at, earlier, free, leaving)) =
     let c : candidates o ≡ without s (candidates p) = ap candidates is ∙ law p s in
-    let held : 0 < count_in (s + 1) found = leaving s (subst (λ (l : List ℕ). 0 < times_in s l) (sym (ap (λ (z : PolicyView). z.leaving) is)) (last_leaving s p.leaving)) in
+    let held : 0 < count_in (place s) found = leaving s (subst (λ (l : List ℕ). 0 < times_in s l) (sym (ap (λ (z : PolicyView). z.leaving) is)) (last_leaving s p.leaving)) in
     let k = back (candidates p) s i r found (ap (λ (l : List ℕ). slice_get l i) (sym c) ∙ at) (subst (λ (l : List ℕ). FoundAll (take i l) found) c earlier) held in
     inr (inr (
       k.0,
@@ -259,9 +259,9 @@ stays_left p o r s t tag mapped tags ne at = elim (cases_eq s r) [
   | inr d ↦ let h = tags s in rw (ne_eqb s r d) at h ∙ at
 ]
 
-other_unmapped : (want : Want) (noted : List (ℕ × ℕ × ℕ)) (p o : PolicyView) (v : View) → policy.IsGood p → Unmapped want noted p o → ((k : ℕ) → differs k want noted ≡ true → differs k want v.noted ≡ true) → (s : ℕ) → tag_at p s ≡ Some (key_tag want.key) → differs (s + 1) want v.noted ≡ true
+other_unmapped : (want : Want) (noted : List (ℕ × ℕ × ℕ)) (p o : PolicyView) (v : View) → policy.IsGood p → Unmapped want noted p o → ((k : ℕ) → differs k want noted ≡ true → differs k want v.noted ≡ true) → (s : ℕ) → tag_at p s ≡ Some (key_tag want.key) → differs (place s) want v.noted ≡ true
 other_unmapped want noted p o v good (inl (same, none)) later s at = absurd (none s at)
-other_unmapped want noted p o v good (inr (r, is, mapped, seen, tags)) later s at = later (s + 1) (ap (λ (n : ℕ). differs (n + 1) want noted) (good.keys s r (key_tag want.key) at mapped) ∙ seen)
+other_unmapped want noted p o v good (inr (r, is, mapped, seen, tags)) later s at = later (place s) (ap (λ (n : ℕ). differs (place n) want noted) (good.keys s r (key_tag want.key) at mapped) ∙ seen)
 
 others_stay : (want : Want) (noted : List (ℕ × ℕ × ℕ)) (p o : PolicyView) (s t : ℕ) → Unmapped want noted p o → t ≢ key_tag want.key → tag_at p s ≡ Some t → tag_at o s ≡ Some t
 others_stay want noted p o s t (inl (same, none)) ne at = ap (λ (z : PolicyView). tag_at z s) same ∙ at
@@ -300,10 +300,10 @@ positive zero ne = absurd (ne refl)
 positive (suc n) ne = omega arith
 
 pub enters_known : (a : About) (want : Want) (now r : ℕ) (e : Entered) (p q : PolicyView) (v : View) → e ≡ Held r (claim_run a.config.range want.sub v.cell.region) → tag_at p r ≡ Some (key_tag want.key)
-    → v.noted ≡ (r + 1, v.cell.region.tag, len_of v.cell.region) ∷ [] → v.cell.region.tag ≡ key_tag want.key → len_of v.cell.region ≡ want.len → q ≡ touch r now p → v.last_region ≡ r + 1 → EntersBy a want now e p q v
+    → v.noted ≡ (place r, v.cell.region.tag, len_of v.cell.region) ∷ [] → v.cell.region.tag ≡ key_tag want.key → len_of v.cell.region ≡ want.len → q ≡ touch r now p → v.last_region ≡ place r → EntersBy a want now e p q v
 enters_known a want now r e p q v is mapped noted tag len touched cell = subst (λ (z : Entered). EntersBy a want now z p q v) (sym is) (inl record {
   mapped = mapped;
-  noted = ap (differs (r + 1) want) noted ∙ differs_not (r + 1) want v.cell.region.tag (len_of v.cell.region) tag len;
+  noted = ap (differs (place r) want) noted ∙ differs_not (place r) want v.cell.region.tag (len_of v.cell.region) tag len;
   touched = touched;
   cell = cell;
   claimed = refl;

@@ -16,7 +16,7 @@ use Rattle.cache_door.specs.Doors.{HoldView, hold_view}
 use Rattle.cache_door.specs.Claims.{IsGap}
 use Rattle.cache_table.specs.Abouts.{About}
 use Rattle.cache_table.specs.declared.view.View.{View}
-use Rattle.cache_table.specs.Rule.{count_in, holds_of}
+use Rattle.cache_table.specs.Rule.{place, count_in, holds_of}
 use Rattle.cache_table.specs.Plays.{Changes, faulted}
 use Rattle.cache_table.specs.Calls.{PassedOver, Faults, entered_hold, IsHeld}
 use Rattle.cache_table.specs.Entries.{differs, Unmapped, IsChoice, EntersBy, OnlyLeft}
@@ -75,28 +75,28 @@ held_stays a want e h i g = true_false (ap (λ (t : HoldView). t.held) (i.0 ∙ 
 pub by_as : (a : About) (want : Want) (now : ℕ) (e : Entered) (p p2 q q2 : PolicyView) (v w : View) → p2 ≡ p → q2 ≡ q → w.noted ≡ v.noted → w.found_held ≡ v.found_held → w.last_region ≡ v.last_region → w.cell ≡ v.cell → EntersBy a want now e p q v → EntersBy a want now e p2 q2 w
 by_as a want now (Held r gap) p p2 q q2 v w ep eq en ef el ec (inl m) = inl record {
   mapped = ap (λ (z : PolicyView). tag_at z r) ep ∙ m.mapped;
-  noted = ap (differs (r + 1) want) en ∙ m.noted;
+  noted = ap (differs (place r) want) en ∙ m.noted;
   touched = eq ∙ m.touched ∙ ap (touch r now) (sym ep);
   cell = el ∙ m.cell;
   claimed = m.claimed ∙ ap (λ (c : CellMetadata). claim_run a.config.range want.sub c.region) (sym ec);
 }
 by_as a want now (Held r gap) p p2 q q2 v w ep eq en ef el ec (inr o) = inr record {
-  other = λ s at. ap (differs (s + 1) want) en ∙ o.other s (ap (λ (z : PolicyView). tag_at z s) (sym ep) ∙ at);
+  other = λ s at. ap (differs (place s) want) en ∙ o.other s (ap (λ (z : PolicyView). tag_at z s) (sym ep) ∙ at);
   mapped = ap (λ (z : PolicyView). tag_at z r) eq ∙ o.mapped;
   claimed = o.claimed;
   choice = subst (λ (z : PolicyView). (tag_at z r ≡ Some (key_tag want.key)) ⊎ IsChoice r z w.found_held) (sym ep) (subst (λ (l : List ℕ). (tag_at p r ≡ Some (key_tag want.key)) ⊎ IsChoice r p l) (sym ef) o.choice);
   others = λ s t ne other at. ap (λ (z : PolicyView). tag_at z s) eq ∙ o.others s t ne other (ap (λ (z : PolicyView). tag_at z s) (sym ep) ∙ at);
 }
 by_as a want now NoRoom p p2 q q2 v w ep eq en ef el ec n = record {
-  held = λ r h. subst (λ (l : List ℕ). 0 < count_in (r + 1) l) (sym ef) (n.held r h);
-  other = λ s at. ap (differs (s + 1) want) en ∙ n.other s (ap (λ (z : PolicyView). tag_at z s) (sym ep) ∙ at);
+  held = λ r h. subst (λ (l : List ℕ). 0 < count_in (place r) l) (sym ef) (n.held r h);
+  other = λ s at. ap (differs (place s) want) en ∙ n.other s (ap (λ (z : PolicyView). tag_at z s) (sym ep) ∙ at);
   others = λ s t ne at. ap (λ (z : PolicyView). tag_at z s) eq ∙ n.others s t ne (ap (λ (z : PolicyView). tag_at z s) (sym ep) ∙ at);
 }
 by_as a want now Gone p p2 q q2 v w ep eq en ef el ec h = eq ∙ h ∙ sym ep
 
 -- ---- a region that was chosen
 
-pub changes_new : (k w tag : ℕ) (g : Option Hold) (h : Hold) → g ≡ None → h.region + 1 ≡ k → h.tag ≡ tag → w % 2 ≡ 0 → holds_of w ≡ 0 → Changes k (w + 1) (tag * 256 + 2) g (Some h)
+pub changes_new : (k w tag : ℕ) (g : Option Hold) (h : Hold) → g ≡ None → place h.region ≡ k → h.tag ≡ tag → w % 2 ≡ 0 → holds_of w ≡ 0 → Changes k (w + 1) (tag * 256 + 2) g (Some h)
 changes_new k w tag g h none at same even free = subst (λ (o : Option Hold). Changes k (w + 1) (tag * 256 + 2) o (Some h)) (sym none) record {
   counted = λ p. omega (arith, weight_yes k (λ _. 1) (Some h) at, weight_no k (λ _. 1) None (λ e. omega arith), even, free);
   elsewhere = λ j f p ne. weight_no j f (Some h) (λ e. ne (sym e ∙ at)) ∙ sym (weight_no j f None (λ e. omega arith));

@@ -16,7 +16,7 @@ use Rattle.cache_table.specs.Abouts.{About}
 use Rattle.cache_table.specs.declared.view.View.{View}
 use Rattle.cache_table.specs.declared.home.Home.{Home}
 use Rattle.cache_table.specs.declared.home.Home.TheVariants.{Policy, Cell, Away}
-use Rattle.cache_table.specs.Rule.{at_of, tag_held, weight, weigh, times, has_turn, has_hold, has_unmounted, count_in, shares, tag_of, holds_of, Noted, regions_in, tickets, gaps, by_hold, by_tracker, Governs, Suits, Fits, Sound, Ruled, Fresh, newcomer}
+use Rattle.cache_table.specs.Rule.{last_place, at_of, tag_held, weight, weigh, times, has_turn, has_hold, has_unmounted, count_in, shares, tag_of, holds_of, Noted, regions_in, tickets, gaps, by_hold, by_tracker, Governs, Suits, Fits, Sound, Ruled, Fresh, newcomer}
 use Rattle.cache_table.specs.Plays.{looked, lost, took, took_policy, took_cell, gave, popped, Taken, Changes, Settles, HasHolds, Counted, IsCounted, Owns, Takes, Gives, Looks, LooksMount, Learns, SetsLive, SetsGone, mount_at, looked_mount, ended_mount, left, right, both, spent}
 use Rattle.cache_table.specs.Calls.{OnTop}
 use Rattle.cache_table.proofs.Sums.{total-set, total-append, count-append, term_le, terms_le, total_same, yes, no, noted_else, weight_yes, weight_no, no_region, noted_low, total_alone}
@@ -34,7 +34,7 @@ abbrev Lasts : View → Type 0
 Lasts v = (k : ℕ) → 0 < k → 0 < times k v.turns → v.last_region ≡ k
 
 -- a word changes in its turn alone, or not at all
-sound_moves : (a : About) (words : List ℕ) (v w : View) (k x : ℕ) → k ≤ a.config.regions → k < length words → (0 < k → at_of v.hold ≡ k → tag_of x ≡ tag_of (get_or words k 0)) → Alike v w → Noted a.config.regions (set words k x) w.turns → regions_in w.turns ≤ 1 → Lasts w
+sound_moves : (a : About) (words : List ℕ) (v w : View) (k x : ℕ) → k ≤ last_place a → k < length words → (0 < k → at_of v.hold ≡ k → tag_of x ≡ tag_of (get_or words k 0)) → Alike v w → Noted (last_place a) (set words k x) w.turns → regions_in w.turns ≤ 1 → Lasts w
     → (v.shares ≡ 0 → w.turns ≡ []) → Sound a words v → Sound a (set words k x) w
 sound_moves a words v w k x small inside tag same noted one last idle o = let at : at_of w.hold ≡ at_of v.hold = ap at_of same.hold in record {
   about = λ h. same.about ∙ o.about (subst (λ (n : ℕ). 0 < n) same.shares h);
@@ -42,13 +42,13 @@ sound_moves a words v w k x small inside tag same noted one last idle o = let at
   one_region = one;
   last = last;
   tagged = λ h. let p : 0 < at_of v.hold = subst (λ (n : ℕ). 0 < n) at h in let t = o.tagged p in (
-    subst (λ (n : ℕ). n ≤ a.config.regions) (sym at) t.0,
+    subst (λ (n : ℕ). n ≤ last_place a) (sym at) t.0,
     ap (λ (n : ℕ). tag_of (get_or (set words k x) n 0)) at ∙ dite (ℕ_discrete (at_of v.hold) k)
         (λ e. ap (λ (n : ℕ). tag_of (get_or (set words k x) n 0)) e ∙ ap tag_of (get_or-set_same words k x 0 inside) ∙ tag (subst (λ (n : ℕ). 0 < n) e p) e ∙ ap (λ (n : ℕ). tag_of (get_or words n 0)) (sym e) ∙ t.1 ∙ sym (ap tag_held same.hold))
         (λ ne. ap tag_of (get_or-set_other words k (at_of v.hold) x 0 ne) ∙ t.1 ∙ sym (ap tag_held same.hold)),
   );
   gone = λ m h. let t = o.gone m (subst (λ (z : List ℕ × List ℕ). 0 < count_in m z.0 + count_in m z.1) (λ i. (same.unmounted i, same.gone i)) h) in
-      (t.0, get_or-set_other words k (a.config.regions + 1 + m) x 0 (λ e. omega arith) ∙ t.1);
+      (t.0, get_or-set_other words k (last_place a + 1 + m) x 0 (λ e. omega arith) ∙ t.1);
   spent = λ h. let t = o.spent (sym same.shares ∙ h) in (idle (sym same.shares ∙ h), same.hold ∙ t.1, same.unmounted ∙ t.2, same.gone ∙ t.3);
 }
 
@@ -73,10 +73,10 @@ module _ (told : Bool) (files : ℕ → ℕ → List ℕ) (A F : Type 0) where
         sound = λ j u e. ⊎_elim
             (λ t. subst (Sound a s.words) t.1 (let o = r.sound id v at in record {
               about = λ h. same.about ∙ o.about (subst (λ (n : ℕ). 0 < n) same.shares h);
-              noted = subst (Noted a.config.regions s.words) (sym turns) o.noted;
+              noted = subst (Noted (last_place a) s.words) (sym turns) o.noted;
               one_region = subst (λ (ts : List (ℕ × ℕ)). regions_in ts ≤ 1) (sym turns) o.one_region;
               last = λ j p h. last ∙ o.last j p (subst (λ (ts : List (ℕ × ℕ)). 0 < times j ts) turns h);
-              tagged = λ h. let b : at_of w.hold ≡ at_of v.hold = ap at_of same.hold in let t = o.tagged (subst (λ (n : ℕ). 0 < n) b h) in (subst (λ (n : ℕ). n ≤ a.config.regions) (sym b) t.0, ap (λ (n : ℕ). tag_of (get_or s.words n 0)) b ∙ t.1 ∙ sym (ap tag_held same.hold));
+              tagged = λ h. let b : at_of w.hold ≡ at_of v.hold = ap at_of same.hold in let t = o.tagged (subst (λ (n : ℕ). 0 < n) b h) in (subst (λ (n : ℕ). n ≤ last_place a) (sym b) t.0, ap (λ (n : ℕ). tag_of (get_or s.words n 0)) b ∙ t.1 ∙ sym (ap tag_held same.hold));
               gone = λ m h. o.gone m (subst (λ (z : List ℕ × List ℕ). 0 < count_in m z.0 + count_in m z.1) (λ i. (same.unmounted i, same.gone i)) h);
               spent = λ h. let t = o.spent (sym same.shares ∙ h) in (turns ∙ t.0, same.hold ∙ t.1, same.unmounted ∙ t.2, same.gone ∙ t.3);
             }))
@@ -96,7 +96,7 @@ module _ (told : Bool) (files : ℕ → ℕ → List ℕ) (A F : Type 0) where
   took_alike k x Away v = (record { about = refl; shares = refl; hold = refl; unmounted = refl; gone = refl }, refl)
 
   -- a region's turn is that of the last region noted
-  took_last : (a : About) (k x : ℕ) (y : Home A F) (v : View) (j : ℕ) → k ≤ a.config.regions → Fits told files a k x y → (0 < k → regions_in v.turns ≡ 0) → {words : List ℕ} → Sound a words v → 0 < j → 0 < times j ((k, x / 2) ∷ v.turns) → (took k x y v).last_region ≡ j
+  took_last : (a : About) (k x : ℕ) (y : Home A F) (v : View) (j : ℕ) → k ≤ last_place a → Fits told files a k x y → (0 < k → regions_in v.turns ≡ 0) → {words : List ℕ} → Sound a words v → 0 < j → 0 < times j ((k, x / 2) ∷ v.turns) → (took k x y v).last_region ≡ j
   took_last a zero x (Policy q) v j le fits lone so p h = so.last j p (omega (arith, h, no 0 j (λ e. omega arith)))
   took_last a zero x (Cell c) v j le fits lone so p h = absurd fits
   took_last a zero x Away v j le fits lone so p h = absurd fits
@@ -105,14 +105,14 @@ module _ (told : Bool) (files : ℕ → ℕ → List ℕ) (A F : Type 0) where
   took_last a (suc k) x (Cell c) v j le fits lone so p h = dite (ℕ_discrete (suc k) j) (λ e. e) (λ ne. absurd (omega (arith, h, no (suc k) j ne, no_region v.turns j p (lone (omega arith)))))
 
   -- no other view has the turn of a free word
-  none_has : (a : About) (s : St) (r : Ruled told files a s) (k j : ℕ) (u : View) → k ≤ a.config.regions → get_or s.words k 0 % 2 ≡ 0 → get_elem? s.views j ≡ some u → times k u.turns ≡ 0
+  none_has : (a : About) (s : St) (r : Ruled told files a s) (k j : ℕ) (u : View) → k ≤ last_place a → get_or s.words k 0 % 2 ≡ 0 → get_elem? s.views j ≡ some u → times k u.turns ≡ 0
   none_has a s r k j u h even at = omega (arith, term_le (has_turn k) s.views j u at, r.turns k h)
 
   -- at most one view has the turn of a word
-  no_other : (a : About) (s : St) (r : Ruled told files a s) (k j id : ℕ) (u v : View) → k ≤ a.config.regions → j ≢ id → get_elem? s.views id ≡ some v → get_elem? s.views j ≡ some u → 0 < times k v.turns → times k u.turns ≡ 0
+  no_other : (a : About) (s : St) (r : Ruled told files a s) (k j id : ℕ) (u v : View) → k ≤ last_place a → j ≢ id → get_elem? s.views id ≡ some v → get_elem? s.views j ≡ some u → 0 < times k v.turns → times k u.turns ≡ 0
   no_other a s r k j id u v h ne here at mine = omega (arith, terms_le (has_turn k) s.views id j v u ne here at, r.turns k h)
 
-  inside : (a : About) (s : St) (r : Ruled told files a s) (k : ℕ) → k ≤ a.config.regions → k < length s.words
+  inside : (a : About) (s : St) (r : Ruled told files a s) (k : ℕ) → k ≤ last_place a → k < length s.words
   inside a s r k h = omega (arith, r.wide)
 
   -- a view has at most as many holds as shares
@@ -144,7 +144,7 @@ module _ (told : Bool) (files : ℕ → ℕ → List ℕ) (A F : Type 0) where
       (λ x f. omega (arith, r.owned x (suc k) c f p home, term_le (weigh (suc k) (by_hold x f)) s.views id v at))
 
   -- a cell that nobody holds has no ticket and no gap
-  is_counted : (tw : TicketWeights) (gw : GapWeights) (a : About) (s : St) (r : Ruled told files a s) (k : ℕ) (y : Home A F) → 0 < k → k ≤ a.config.regions → get_elem? s.homes k ≡ some (some y) → Fits told files a k (get_or s.words k 0) y → IsCounted (get_or s.words k 0) y
+  is_counted : (tw : TicketWeights) (gw : GapWeights) (a : About) (s : St) (r : Ruled told files a s) (k : ℕ) (y : Home A F) → 0 < k → k ≤ last_place a → get_elem? s.homes k ≡ some (some y) → Fits told files a k (get_or s.words k 0) y → IsCounted (get_or s.words k 0) y
   is_counted tw gw a s r zero y p le home fits = absurd (omega arith)
   is_counted tw gw a s r (suc k) (Policy q) p le home fits = absurd fits
   is_counted tw gw a s r (suc k) Away p le home fits = absurd fits
@@ -155,10 +155,10 @@ module _ (told : Bool) (files : ℕ → ℕ → List ℕ) (A F : Type 0) where
         (omega (arith, z, r.held (suc k) p le, r.owned gaps (suc k) c (λ _ _ _. 1) p home, total_le (weigh (suc k) (by_hold gaps (λ _ _ _. 1))) (has_hold (suc k)) s.views (λ v. gap_less (suc k) v.hold)));
   }
 
-  pub takes_turn : (tw : TicketWeights) (gw : GapWeights) (a : About) (slots id : ℕ) (m : Sat) (k seen : ℕ) → k ≤ a.config.regions → seen % 2 ≡ 0 → 0 < m.0.shares → (0 < k → regions_in m.0.turns ≡ 0)
+  pub takes_turn : (tw : TicketWeights) (gw : GapWeights) (a : About) (slots id : ℕ) (m : Sat) (k seen : ℕ) → k ≤ last_place a → k % 8 ≡ 0 → seen % 2 ≡ 0 → 0 < m.0.shares → (0 < k → regions_in m.0.turns ≡ 0)
       → Allows (Ruled told files a) slots id m k (λ n. either (eqb n seen) (seen + 1) n) (Takes told files (step slots k seen (seen + 1) none) m)
-  takes_turn tw gw a slots id m k seen small even share lone s r _ at fits = let x : ℕ = get_or s.words k 0 in let v : View = m.0 in dite (ℕ_discrete x seen)
-      (λ hit. let even' : x % 2 ≡ 0 = ap (λ (n : ℕ). n % 2) hit ∙ even in let y = r.free k small even' in let w : View = took k x y.0 v in let t = took_alike k x y.0 v in let same = t.0 in let x' : ℕ = seen + 1 in let one : x' ≡ x + 1 = omega arith in
+  takes_turn tw gw a slots id m k seen small whole even share lone s r _ at fits = let x : ℕ = get_or s.words k 0 in let v : View = m.0 in dite (ℕ_discrete x seen)
+      (λ hit. let even' : x % 2 ≡ 0 = ap (λ (n : ℕ). n % 2) hit ∙ even in let y = r.free k small even' whole in let w : View = took k x y.0 v in let t = took_alike k x y.0 v in let same = t.0 in let x' : ℕ = seen + 1 in let one : x' ≡ x + 1 = omega arith in
       let there = inside a s r k small in let mine-not : times k v.turns ≡ 0 = none_has a s r k id v small even' at in let here : get_or (set s.words k x') k 0 ≡ x' = get_or-set_same s.words k x' 0 there in
       let else : (j : ℕ) → j ≢ k → get_or (set s.words k x') j 0 ≡ get_or s.words j 0 = λ j ne. get_or-set_other s.words k j x' 0 ne in
       let tag : 0 < k → at_of v.hold ≡ k → tag_of x' ≡ tag_of x = λ _ _. omega arith in
@@ -173,9 +173,9 @@ module _ (told : Bool) (files : ℕ → ℕ → List ℕ) (A F : Type 0) where
               (λ e. let p : get_or (set s.words k x') j 0 ≡ x' = ap (λ (n : ℕ). get_or (set s.words k x') n 0) (sym e) ∙ here in let q : get_or s.words j 0 ≡ x = ap (λ (n : ℕ). get_or s.words n 0) (sym e) in
               omega (arith, yes k j e, p, q))
               (λ ne. let p = else j (λ e. ne (sym e)) in omega (arith, no k j ne, p));
-          free = λ j h e. dite (ℕ_discrete j k)
+          free = λ j h e d. dite (ℕ_discrete j k)
               (λ is. let p : get_or (set s.words k x') j 0 ≡ x' = ap (λ (n : ℕ). get_or (set s.words k x') n 0) is ∙ here in absurd (omega (arith, p, e)))
-              (λ ne. let p = else j ne in let z = r.free j h (ap (λ (n : ℕ). n % 2) (sym p) ∙ e) in (z.0, set_else s.homes k j none ne ∙ z.1, subst (λ (n : ℕ). Fits told files a j n z.0) (sym p) z.2));
+              (λ ne. let p = else j ne in let z = r.free j h (ap (λ (n : ℕ). n % 2) (sym p) ∙ e) d in (z.0, set_else s.homes k j none ne ∙ z.1, subst (λ (n : ℕ). Fits told files a j n z.0) (sym p) z.2));
           taken = λ j h e. dite (ℕ_discrete j k)
               (λ is. ap (get_elem? (set s.homes k none)) is ∙ set_here s.homes k none (omega (arith, r.deep)))
               (λ ne. set_else s.homes k j none ne ∙ r.taken j h (ap (λ (n : ℕ). n % 2) (sym (else j ne)) ∙ e));
@@ -183,15 +183,15 @@ module _ (told : Bool) (files : ℕ → ℕ → List ℕ) (A F : Type 0) where
               (λ is. let q : get_or (set s.words k x') j 0 ≡ x' = ap (λ (n : ℕ). get_or (set s.words k x') n 0) is ∙ here in let q' : get_or s.words j 0 ≡ x = ap (λ (n : ℕ). get_or s.words n 0) is in
               let half : x / 2 ≡ x' / 2 = omega arith in ap holds_of q' ∙ ap (λ (n : ℕ). n % 128) half ∙ ap holds_of (sym q))
               (λ ne. ap holds_of (sym (else j ne)));
-          unmounted = λ i h e. subst (λ (n : ℕ). 0 < n) (sym (total_same (has_unmounted i) s.views id v w at (ap (count_in i) same.unmounted))) (r.unmounted i h (sym (else (a.config.regions + 1 + i) (λ z. omega arith)) ∙ e));
+          unmounted = λ i h e. subst (λ (n : ℕ). 0 < n) (sym (total_same (has_unmounted i) s.views id v w at (ap (count_in i) same.unmounted))) (r.unmounted i h (sym (else (last_place a + 1 + i) (λ z. omega arith)) ∙ e));
           sound = λ j u e. ⊎_elim
               (λ z. subst (Sound a (set s.words k x')) z.1 (sound_moves a s.words v w k x' small there tag same
-              (subst (Noted a.config.regions (set s.words k x')) (sym t.1) (small, (here ∙ omega arith), noted_else a.config.regions k x' s.words v.turns mine-not so.noted))
+              (subst (Noted (last_place a) (set s.words k x')) (sym t.1) (small, (here ∙ omega arith), noted_else (last_place a) k x' s.words v.turns mine-not so.noted))
               (subst (λ (ts : List (ℕ × ℕ)). regions_in ts ≤ 1) (sym t.1) (dite (ℕ_discrete k 0) (λ is. omega (arith, so.one_region, ap {B = ℕ} (λ b. cond b 0 1) (eq-eqb k 0 is))) (λ ne. omega (arith, lone (omega arith), ap {B = ℕ} (λ b. cond b 0 1) (ne_eqb k 0 ne)))))
               (λ i q h. took_last a k x y.0 v i small y.2 lone so q (subst (λ (ts : List (ℕ × ℕ)). 0 < times i ts) t.1 h))
               (λ none. absurd (omega arith)) so))
               (λ z. let o = r.sound j u z.1 in sound_moves a s.words u u k x' small there (λ _ _. omega arith) record { about = refl; shares = refl; hold = refl; unmounted = refl; gone = refl }
-              (noted_else a.config.regions k x' s.words u.turns (none_has a s r k j u small even' z.1) o.noted) o.one_region o.last (λ none. (o.spent none).0) o)
+              (noted_else (last_place a) k x' s.words u.turns (none_has a s r k j u small even' z.1) o.noted) o.one_region o.last (λ none. (o.spent none).0) o)
               (at_set s.views id j w u e);
           all_shares = total_same shares s.views id v w at same.shares ∙ r.all_shares;
           owned = λ x' j c f p e. total_same (weigh j (by_hold x' f)) s.views id v w at (ap (weight j (by_hold x' f)) same.hold) ∙ dite (ℕ_discrete j k)
@@ -247,11 +247,11 @@ module _ (told : Bool) (files : ℕ → ℕ → List ℕ) (A F : Type 0) where
   gave_keeps_cell h (Cell c) v = refl
   gave_keeps_cell h Away v = refl
 
-  pub gives_turn : (a : About) (slots id : ℕ) (m : Sat) (k new b : ℕ) (ts : List (ℕ × ℕ)) (y : Home A F) (h : Option Hold) → k ≤ a.config.regions → new % 2 ≡ 0 → m.0.turns ≡ (k, b) ∷ ts → m.1 ≡ (k, y) ∷ rest m.1 → 0 < m.0.shares
+  pub gives_turn : (a : About) (slots id : ℕ) (m : Sat) (k new b : ℕ) (ts : List (ℕ × ℕ)) (y : Home A F) (h : Option Hold) → k ≤ last_place a → new % 2 ≡ 0 → m.0.turns ≡ (k, b) ∷ ts → m.1 ≡ (k, y) ∷ rest m.1 → 0 < m.0.shares
       → Fits told files a k new y → Changes k (2 * b + 1) new m.0.hold h → Settles k m.0 h y
       → Allows (Ruled told files a) slots id m k (λ _. new) (λ _. Gives h (step slots k new 0 none) m new)
   gives_turn a slots id m k new b ts y h small even mine top share good ch settles s r _ at _ = let v : View = m.0 in let w : View = gave h y v in let t = gave_alike h y v in let so = r.sound id v at in let there = inside a s r k small in
-      let noted = subst (Noted a.config.regions s.words) mine so.noted in let old : get_or s.words k 0 ≡ 2 * b + 1 = noted.1 in let x : ℕ = get_or s.words k 0 in
+      let noted = subst (Noted (last_place a) s.words) mine so.noted in let old : get_or s.words k 0 ≡ 2 * b + 1 = noted.1 in let x : ℕ = get_or s.words k 0 in
       let new-turns : w.turns ≡ ts = t.2 ∙ ap popped mine in
       let once : times k v.turns ≡ 1 + times k ts = ap (times k) mine ∙ omega (arith, yes k k refl) in
       let alone : times k ts ≡ 0 = omega (arith, term_le (has_turn k) s.views id v at, r.turns k small, once) in
@@ -268,13 +268,13 @@ module _ (told : Bool) (files : ℕ → ℕ → List ℕ) (A F : Type 0) where
               (λ e. let p : get_or (set s.words k new) j 0 ≡ new = ap (λ (n : ℕ). get_or (set s.words k new) n 0) (sym e) ∙ here in let q : get_or s.words j 0 ≡ 2 * b + 1 = ap (λ (n : ℕ). get_or s.words n 0) (sym e) ∙ old in
               omega (arith, yes k j e, p, q))
               (λ ne. let p = else j (λ e. ne (sym e)) in omega (arith, no k j ne, p));
-          free = λ j le e. dite (ℕ_discrete j k)
+          free = λ j le e d. dite (ℕ_discrete j k)
               (λ is. (
                 y,
                 ap (get_elem? (set s.homes k (some y))) is ∙ set_here s.homes k (some y) (omega (arith, r.deep)),
                 subst (λ (z : ℕ × ℕ). Fits told files a z.0 z.1 y) (λ i. (sym is i, (sym here ∙ ap (λ (n : ℕ). get_or (set s.words k new) n 0) (sym is)) i)) good,
               ))
-              (λ ne. let p = else j ne in let z = r.free j le (ap (λ (n : ℕ). n % 2) (sym p) ∙ e) in (z.0, set_else s.homes k j (some y) ne ∙ z.1, subst (λ (n : ℕ). Fits told files a j n z.0) (sym p) z.2));
+              (λ ne. let p = else j ne in let z = r.free j le (ap (λ (n : ℕ). n % 2) (sym p) ∙ e) d in (z.0, set_else s.homes k j (some y) ne ∙ z.1, subst (λ (n : ℕ). Fits told files a j n z.0) (sym p) z.2));
           taken = λ j le e. dite (ℕ_discrete j k)
               (λ is. let p : get_or (set s.words k new) j 0 ≡ new = ap (λ (n : ℕ). get_or (set s.words k new) n 0) is ∙ here in absurd (omega (arith, p, e)))
               (λ ne. set_else s.homes k j (some y) ne ∙ r.taken j le (ap (λ (n : ℕ). n % 2) (sym (else j ne)) ∙ e));
@@ -284,24 +284,24 @@ module _ (told : Bool) (files : ℕ → ℕ → List ℕ) (A F : Type 0) where
               let o' : holds_of (get_or s.words j 0) ≡ holds_of (2 * b + 1) = ap holds_of q' in let n' : holds_of (get_or (set s.words k new) j 0) ≡ holds_of new = ap holds_of q in
               omega (arith, sum, now, before, c, o', n'))
               (λ ne. let c = ch.elsewhere j (λ _. 1) p ne in let n' : holds_of (get_or (set s.words k new) j 0) ≡ holds_of (get_or s.words j 0) = ap holds_of (else j ne) in omega (arith, sum, now, before, c, n'));
-          unmounted = λ i le e. subst (λ (n : ℕ). 0 < n) (sym (total_same (has_unmounted i) s.views id v w at (ap (count_in i) t.4))) (r.unmounted i le (sym (else (a.config.regions + 1 + i) (λ z. omega arith)) ∙ e));
+          unmounted = λ i le e. subst (λ (n : ℕ). 0 < n) (sym (total_same (has_unmounted i) s.views id v w at (ap (count_in i) t.4))) (r.unmounted i le (sym (else (last_place a + 1 + i) (λ z. omega arith)) ∙ e));
           sound = λ j u e. ⊎_elim
               (λ z. subst (Sound a (set s.words k new)) z.1 record {
                 about = λ _. t.0 ∙ so.about share;
-                noted = subst (Noted a.config.regions (set s.words k new)) (sym new-turns) (noted_else a.config.regions k new s.words ts alone noted.2);
+                noted = subst (Noted (last_place a) (set s.words k new)) (sym new-turns) (noted_else (last_place a) k new s.words ts alone noted.2);
                 one_region = subst (λ (l : List (ℕ × ℕ)). regions_in l ≤ 1) (sym new-turns) (let o = subst (λ (l : List (ℕ × ℕ)). regions_in l ≤ 1) mine so.one_region in omega arith);
                 last = λ i p q. t.6 ∙ so.last i p (let l : times i v.turns ≡ times i ((k, b) ∷ ts) = ap (times i) mine in let n : times i w.turns ≡ times i ts = ap (times i) new-turns in omega (arith, q, l, n));
                 tagged = λ p. let at : at_of w.hold ≡ at_of h = ap at_of t.3 in let tg : tag_held w.hold ≡ tag_held h = ap tag_held t.3 in let p' : 0 < at_of h = subst (λ (n : ℕ). 0 < n) at p in dite (ℕ_discrete (at_of h) k)
-                    (λ is. (subst (λ (n : ℕ). n ≤ a.config.regions) (sym (at ∙ is)) small, ap (λ (n : ℕ). tag_of (get_or (set s.words k new) n 0)) (at ∙ is) ∙ ap tag_of here ∙ ch.here p' is ∙ sym tg))
+                    (λ is. (subst (λ (n : ℕ). n ≤ last_place a) (sym (at ∙ is)) small, ap (λ (n : ℕ). tag_of (get_or (set s.words k new) n 0)) (at ∙ is) ∙ ap tag_of here ∙ ch.here p' is ∙ sym tg))
                     (λ ne. let th = ch.there p' ne in let g = so.tagged (subst (λ (n : ℕ). 0 < n) th.0 p') in
-                    (subst (λ (n : ℕ). n ≤ a.config.regions) (sym (at ∙ th.0)) g.0, ap (λ (n : ℕ). tag_of (get_or (set s.words k new) n 0)) at ∙ ap tag_of (else (at_of h) ne) ∙ ap (λ (n : ℕ). tag_of (get_or s.words n 0)) th.0 ∙ g.1 ∙ sym th.1 ∙ sym tg));
-                gone = λ i p. let g = so.gone i (subst (λ (z : List ℕ × List ℕ). 0 < count_in i z.0 + count_in i z.1) (λ c. (t.4 c, t.5 c)) p) in (g.0, else (a.config.regions + 1 + i) (λ z. omega arith) ∙ g.1);
+                    (subst (λ (n : ℕ). n ≤ last_place a) (sym (at ∙ th.0)) g.0, ap (λ (n : ℕ). tag_of (get_or (set s.words k new) n 0)) at ∙ ap tag_of (else (at_of h) ne) ∙ ap (λ (n : ℕ). tag_of (get_or s.words n 0)) th.0 ∙ g.1 ∙ sym th.1 ∙ sym tg));
+                gone = λ i p. let g = so.gone i (subst (λ (z : List ℕ × List ℕ). 0 < count_in i z.0 + count_in i z.1) (λ c. (t.4 c, t.5 c)) p) in (g.0, else (last_place a + 1 + i) (λ z. omega arith) ∙ g.1);
                 spent = λ none. absurd (omega (arith, t.1));
               })
               (λ z. let o = r.sound j u z.1 in sound_moves a s.words u u k new small there
               (λ p is. ch.tag p (omega (arith, r.held k p small, term_le (has_hold k) s.views j u z.1, weight_yes k (λ _. 1) u.hold is, value_is u.hold (omega (arith, is, p)), ap holds_of old)) ∙ ap tag_of (sym old))
               record { about = refl; shares = refl; hold = refl; unmounted = refl; gone = refl }
-              (noted_else a.config.regions k new s.words u.turns (no_other a s r k j id u v small z.0 at z.1 (omega (arith, once))) o.noted) o.one_region o.last (λ none. (o.spent none).0) o)
+              (noted_else (last_place a) k new s.words u.turns (no_other a s r k j id u v small z.0 at z.1 (omega (arith, once))) o.noted) o.one_region o.last (λ none. (o.spent none).0) o)
               (at_set s.views id j w u e);
           all_shares = total_same shares s.views id v w at t.1 ∙ r.all_shares;
           owned = λ x' j c f p e. let sum = total-set (weigh j (by_hold x' f)) s.views id v w at in let now : weigh j (by_hold x' f) w ≡ weight j (by_hold x' f) h = ap (weight j (by_hold x' f)) t.3 in dite (ℕ_discrete j k)
@@ -327,7 +327,7 @@ module _ (told : Bool) (files : ℕ → ℕ → List ℕ) (A F : Type 0) where
     wide = f.wide;
     deep = length-map slots some ∙ f.deep;
     turns = λ k h. sym ((f.free k h).0);
-    free = λ k h e. let t = f.free k h in (t.2, at_map some slots k t.2 t.3, t.4);
+    free = λ k h e d. let t = f.home k h d in (t.0, at_map some slots k t.0 t.1, t.2);
     taken = λ k h e. absurd (omega (arith, (f.free k h).0, e));
     held = λ k p h. omega (arith, weight_no k (λ _. 1) None (λ e. omega arith), (f.free k h).1);
     unmounted = λ m h e. absurd (f.alive m h e);
@@ -427,37 +427,37 @@ module _ (told : Bool) (files : ℕ → ℕ → List ℕ) (A F : Type 0) where
   is_cell (suc k) w m n p (Cell c, fits, few, mine, is) = (c, fits, few p, (λ e. mine e p), is)
 
   -- a mount's word becomes x, and gone it stays
-  mount_step : (a : About) (s : St) (r : Ruled told files a s) (k m x id : ℕ) (c : List (ℕ × Home A F)) (v w : View) → get_elem? s.views id ≡ some v → k ≡ a.config.regions + 1 + m → m < 4096 → (get_or s.words k 0 ≡ 2 → x ≡ 2) → 0 < v.shares
+  mount_step : (a : About) (s : St) (r : Ruled told files a s) (k m x id : ℕ) (c : List (ℕ × Home A F)) (v w : View) → get_elem? s.views id ≡ some v → k ≡ last_place a + 1 + m → m < 4096 → (get_or s.words k 0 ≡ 2 → x ≡ 2) → 0 < v.shares
       → w.about ≡ v.about → w.shares ≡ v.shares → w.turns ≡ v.turns → w.hold ≡ v.hold → w.cell ≡ v.cell → w.last_region ≡ v.last_region → ((i : ℕ) → count_in i v.unmounted ≤ count_in i w.unmounted)
       → (x ≡ 2 → 0 < total (has_unmounted m) (set s.views id w)) → ((i : ℕ) → 0 < count_in i w.unmounted + count_in i w.gone → (0 < count_in i v.unmounted + count_in i v.gone) ⊎ ((i ≡ m) × (x ≡ 2)))
       → Ruled told files a (stepped s k x id c w keeps)
   mount_step a s r k m x id c v w at is inside-mounts once share about shares' turns hold cell last more known sees =
       let there : k < length s.words = omega (arith, r.wide) in let here : get_or (set s.words k x) k 0 ≡ x = get_or-set_same s.words k x 0 there in
       let else : (j : ℕ) → j ≢ k → get_or (set s.words k x) j 0 ≡ get_or s.words j 0 = λ j ne. get_or-set_other s.words k j x 0 ne in
-      let low : (j : ℕ) → j ≤ a.config.regions → get_or (set s.words k x) j 0 ≡ get_or s.words j 0 = λ j h. else j (λ e. omega arith) in
-      let stays : (i : ℕ) → get_or s.words (a.config.regions + 1 + i) 0 ≡ 2 → get_or (set s.words k x) (a.config.regions + 1 + i) 0 ≡ 2 = λ i e. dite (ℕ_discrete (a.config.regions + 1 + i) k)
-      (λ same. ap (λ (n : ℕ). get_or (set s.words k x) n 0) same ∙ here ∙ once (ap (λ (n : ℕ). get_or s.words n 0) (sym same) ∙ e)) (λ ne. else (a.config.regions + 1 + i) ne ∙ e) in
-      let noted : (ts : List (ℕ × ℕ)) → Noted a.config.regions s.words ts → Noted a.config.regions (set s.words k x) ts = noted_low a.config.regions k x s.words (omega arith) in
+      let low : (j : ℕ) → j ≤ last_place a → get_or (set s.words k x) j 0 ≡ get_or s.words j 0 = λ j h. else j (λ e. omega arith) in
+      let stays : (i : ℕ) → get_or s.words (last_place a + 1 + i) 0 ≡ 2 → get_or (set s.words k x) (last_place a + 1 + i) 0 ≡ 2 = λ i e. dite (ℕ_discrete (last_place a + 1 + i) k)
+      (λ same. ap (λ (n : ℕ). get_or (set s.words k x) n 0) same ∙ here ∙ once (ap (λ (n : ℕ). get_or s.words n 0) (sym same) ∙ e)) (λ ne. else (last_place a + 1 + i) ne ∙ e) in
+      let noted : (ts : List (ℕ × ℕ)) → Noted (last_place a) s.words ts → Noted (last_place a) (set s.words k x) ts = noted_low (last_place a) k x s.words (omega arith) in
       let so = r.sound id v at in record {
         wide = length-set s.words k x ∙ r.wide;
         deep = r.deep;
         turns = λ j h. total_same (has_turn j) s.views id v w at (ap (times j) turns) ∙ r.turns j h ∙ ap (λ (n : ℕ). n % 2) (sym (low j h));
-        free = λ j h e. let z = r.free j h (ap (λ (n : ℕ). n % 2) (sym (low j h)) ∙ e) in (z.0, z.1, subst (λ (n : ℕ). Fits told files a j n z.0) (sym (low j h)) z.2);
+        free = λ j h e d. let z = r.free j h (ap (λ (n : ℕ). n % 2) (sym (low j h)) ∙ e) d in (z.0, z.1, subst (λ (n : ℕ). Fits told files a j n z.0) (sym (low j h)) z.2);
         taken = λ j h e. r.taken j h (ap (λ (n : ℕ). n % 2) (sym (low j h)) ∙ e);
         held = λ j p h. total_same (has_hold j) s.views id v w at (ap (weight j (λ _. 1)) hold) ∙ r.held j p h ∙ ap holds_of (sym (low j h));
         unmounted = λ i h e. dite (ℕ_discrete i m)
-            (λ same. subst (λ (n : ℕ). 0 < total (has_unmounted n) (set s.views id w)) (sym same) (known (sym (ap (λ (n : ℕ). get_or (set s.words k x) n 0) (ap (λ (n : ℕ). a.config.regions + 1 + n) same ∙ sym is) ∙ here) ∙ e)))
-            (λ ne. omega (arith, total-set (has_unmounted i) s.views id v w at, more i, r.unmounted i h (sym (else (a.config.regions + 1 + i) (λ z. ne (omega arith))) ∙ e)));
+            (λ same. subst (λ (n : ℕ). 0 < total (has_unmounted n) (set s.views id w)) (sym same) (known (sym (ap (λ (n : ℕ). get_or (set s.words k x) n 0) (ap (λ (n : ℕ). last_place a + 1 + n) same ∙ sym is) ∙ here) ∙ e)))
+            (λ ne. omega (arith, total-set (has_unmounted i) s.views id v w at, more i, r.unmounted i h (sym (else (last_place a + 1 + i) (λ z. ne (omega arith))) ∙ e)));
         sound = λ j u e. ⊎_elim
             (λ z. subst (Sound a (set s.words k x)) z.1 record {
               about = λ _. about ∙ so.about share;
-              noted = subst (Noted a.config.regions (set s.words k x)) (sym turns) (noted v.turns so.noted);
+              noted = subst (Noted (last_place a) (set s.words k x)) (sym turns) (noted v.turns so.noted);
               one_region = subst (λ (ts : List (ℕ × ℕ)). regions_in ts ≤ 1) (sym turns) so.one_region;
               last = λ j p h. last ∙ so.last j p (subst (λ (ts : List (ℕ × ℕ)). 0 < times j ts) turns h);
               tagged = λ h. let at' : at_of w.hold ≡ at_of v.hold = ap at_of hold in let g = so.tagged (subst (λ (n : ℕ). 0 < n) at' h) in
-                  (subst (λ (n : ℕ). n ≤ a.config.regions) (sym at') g.0, ap (λ (n : ℕ). tag_of (get_or (set s.words k x) n 0)) at' ∙ ap tag_of (low (at_of v.hold) g.0) ∙ g.1 ∙ sym (ap tag_held hold));
+                  (subst (λ (n : ℕ). n ≤ last_place a) (sym at') g.0, ap (λ (n : ℕ). tag_of (get_or (set s.words k x) n 0)) at' ∙ ap tag_of (low (at_of v.hold) g.0) ∙ g.1 ∙ sym (ap tag_held hold));
               gone = λ i h. ⊎_elim (λ old. let g = so.gone i old in (g.0, stays i g.1))
-                  (λ new. (subst (λ (n : ℕ). n < 4096) (sym new.0) inside-mounts, ap (λ (n : ℕ). get_or (set s.words k x) n 0) (ap (λ (n : ℕ). a.config.regions + 1 + n) new.0 ∙ sym is) ∙ here ∙ new.1)) (sees i h);
+                  (λ new. (subst (λ (n : ℕ). n < 4096) (sym new.0) inside-mounts, ap (λ (n : ℕ). get_or (set s.words k x) n 0) (ap (λ (n : ℕ). last_place a + 1 + n) new.0 ∙ sym is) ∙ here ∙ new.1)) (sees i h);
               spent = λ none. absurd (omega arith);
             })
             (λ z. let o = r.sound j u z.1 in record {
@@ -478,9 +478,9 @@ module _ (told : Bool) (files : ℕ → ℕ → List ℕ) (A F : Type 0) where
             (at_set s.views id i w u e);
       }
 
-  pub loads_mount : (a : About) (slots id : ℕ) (m : Sat) (k i : ℕ) → k ≡ a.config.regions + 1 + i → i < 4096 → 0 < m.0.shares → Allows (Ruled told files a) slots id m k (λ n. n) (LooksMount (step slots k 0 0 none) m)
+  pub loads_mount : (a : About) (slots id : ℕ) (m : Sat) (k i : ℕ) → k ≡ last_place a + 1 + i → i < 4096 → 0 < m.0.shares → Allows (Ruled told files a) slots id m k (λ n. n) (LooksMount (step slots k 0 0 none) m)
   loads_mount a slots id m k i is h share s r _ at _ = let x : ℕ = get_or s.words k 0 in let v : View = m.0 in let w : View = looked_mount k x v in let so = r.sound id v at in
-      let place : mount_at k v ≡ i = omega (arith, ap (λ (q : About). q.config.regions) (so.about share)) in (
+      let place : mount_at k v ≡ i = omega (arith, ap last_place (so.about share)) in (
         w,
         keeps,
         tt,
@@ -493,7 +493,7 @@ module _ (told : Bool) (files : ℕ → ℕ → List ℕ) (A F : Type 0) where
         refl,
       )
 
-  pub starts_mount : (a : About) (slots id : ℕ) (m : Sat) (k i : ℕ) → k ≡ a.config.regions + 1 + i → i < 4096 → 0 < m.0.shares → Allows (Ruled told files a) slots id m k (λ n. either (eqb n 0) 1 n) (SetsLive (step slots k 0 1 none) m)
+  pub starts_mount : (a : About) (slots id : ℕ) (m : Sat) (k i : ℕ) → k ≡ last_place a + 1 + i → i < 4096 → 0 < m.0.shares → Allows (Ruled told files a) slots id m k (λ n. either (eqb n 0) 1 n) (SetsLive (step slots k 0 1 none) m)
   starts_mount a slots id m k i is h share s r _ at _ = let x : ℕ = get_or s.words k 0 in let v : View = m.0 in (
     v,
     keeps,
@@ -505,9 +505,9 @@ module _ (told : Bool) (files : ℕ → ℕ → List ℕ) (A F : Type 0) where
     refl,
   )
 
-  pub ends_mount : (a : About) (slots id : ℕ) (m : Sat) (k i : ℕ) → k ≡ a.config.regions + 1 + i → i < 4096 → 0 < m.0.shares → Allows (Ruled told files a) slots id m k (λ _. 2) (λ _. SetsGone (step slots k 2 0 none) m 2)
+  pub ends_mount : (a : About) (slots id : ℕ) (m : Sat) (k i : ℕ) → k ≡ last_place a + 1 + i → i < 4096 → 0 < m.0.shares → Allows (Ruled told files a) slots id m k (λ _. 2) (λ _. SetsGone (step slots k 2 0 none) m 2)
   ends_mount a slots id m k i is h share s r _ at _ = let x : ℕ = get_or s.words k 0 in let v : View = m.0 in let w : View = ended_mount k v in let so = r.sound id v at in
-      let place : mount_at k v ≡ i = omega (arith, ap (λ (q : About). q.config.regions) (so.about share)) in (
+      let place : mount_at k v ≡ i = omega (arith, ap last_place (so.about share)) in (
         w,
         keeps,
         tt,
@@ -525,7 +525,7 @@ module _ (told : Bool) (files : ℕ → ℕ → List ℕ) (A F : Type 0) where
   suits_fit a zero w c p s = absurd (omega arith)
   suits_fit a (suc k) w c p s = s
 
-  pub gives_home : (a : About) (slots id : ℕ) (m m' : Me (Home A F) View) (k w new : ℕ) (y : Home A F) (h : Option Hold) → m' ≡ (m.0, (k, y) ∷ rest m.1) → k ≤ a.config.regions → w % 2 ≡ 0 → new % 2 ≡ 0 → OnTop k w m.0 → 0 < m.0.shares
+  pub gives_home : (a : About) (slots id : ℕ) (m m' : Me (Home A F) View) (k w new : ℕ) (y : Home A F) (h : Option Hold) → m' ≡ (m.0, (k, y) ∷ rest m.1) → k ≤ last_place a → w % 2 ≡ 0 → new % 2 ≡ 0 → OnTop k w m.0 → 0 < m.0.shares
       → Fits told files a k new y → Changes k (w + 1) new m.0.hold h → Settles k m.0 h y → Allows (Ruled told files a) slots id m' k (λ _. new) (λ _. Gives h (step slots k new 0 none) m' new)
   gives_home a slots id m m' k w new y h is small even even' top share fits ch settles = let old : w + 1 ≡ 2 * (w / 2) + 1 = omega arith in
       subst (λ (z : Me (Home A F) View). Allows (Ruled told files a) slots id z k (λ _. new) (λ _. Gives h (step slots k new 0 none) z new)) (sym is)

@@ -1,11 +1,11 @@
 -- The rule of the table keeps the cache between two steps.
-use Rattle.std.proofs.Common.{◌≡◌, ℕ, zero, suc, ◌<◌, ◌≤◌, Bool, List, arith}
+use Rattle.std.proofs.Common.{◌≡◌, ℕ, zero, suc, refl, ◌<◌, ◌≤◌, Bool, List, arith}
 use Rattle.std.specs.Prelude.{◌%◌, slice_index}
 use mathlib.Core.Option.{some}
 use lib.ListN.{get_elem?}
 use Rattle.atomic_table.specs.Table.{State}
 use Rattle.cache_table.specs.Abouts.{About}
-use Rattle.cache_table.specs.Rule.{Ruled, Shelved}
+use Rattle.cache_table.specs.Rule.{last_place, Ruled, Shelved}
 use Rattle.cache_table.specs.declared.view.View.{View}
 use Rattle.cache_table.specs.declared.home.Home.{Home}
 use Rattle.cache_table.specs.declared.home.Home.TheVariants.{Policy, Cell, Away}
@@ -17,9 +17,9 @@ module _ {A F : Type 0} (told : Bool) (files : ℕ → ℕ → List ℕ) (a : Ab
   cell_kept r (Away, e, f) = absurd f
   cell_kept r (Cell c, e, f) = record { cell = c; home = e; tag = f.tag; good = f.good }
 
-  bytes : (k : ℕ) → 0 < k → k ≤ a.config.regions → slice_index s.words k % 2 ≡ 0 → CellKept told files s k
-  bytes zero above within free = absurd (omega (arith, above))
-  bytes (suc r) above within free = cell_kept r (h.free (suc r) within free)
+  bytes : (k : ℕ) → 0 < k → k ≤ last_place a → k % 8 ≡ 0 → slice_index s.words k % 2 ≡ 0 → CellKept told files s k
+  bytes zero above within whole free = absurd (omega (arith, above))
+  bytes (suc r) above within whole free = cell_kept r (h.free (suc r) within free whole)
 
   by_policy : Shelved told files a s.homes 0 (slice_index s.words 0) → IsKept told files a s
   by_policy (Cell c, e, f) = absurd f
@@ -35,7 +35,7 @@ module _ {A F : Type 0} (told : Bool) (files : ℕ → ℕ → List ℕ) (a : Ab
   }
 
   pub kept : slice_index s.words 0 % 2 ≡ 0 → IsKept told files a s
-  kept free = by_policy (h.free 0 (omega arith) free)
+  kept free = by_policy (h.free 0 (omega arith) free refl)
 
 pub kept_between : {A F K : Type 0} (told : Bool) (files : ℕ → ℕ → List ℕ) (about : K → About) → Keeps {A = A} {F = F} told files about (λ key. Ruled told files (about key))
 kept_between told files about = λ key s h free. kept told files (about key) s h free

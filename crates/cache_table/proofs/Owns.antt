@@ -7,7 +7,7 @@ use Rattle.sparse_tracker.specs.ByteStates.{Tracker}
 use Rattle.sparse_tracker.specs.Weights.{TicketWeights, GapWeights, total, by_ticket, by_gap, tickets_weigh, gaps_weigh, one_at}
 use Rattle.sparse_tracker.specs.Kept as tracker
 use Rattle.cache_door.specs.declared.hold.Hold.{Hold}
-use Rattle.cache_table.specs.Rule.{Part, tickets, gaps, by_hold, by_tracker, at_of, value, weight}
+use Rattle.cache_table.specs.Rule.{place, Part, tickets, gaps, by_hold, by_tracker, at_of, value, weight}
 use Rattle.cache_table.specs.Plays.{HasHold, HasHolds}
 use Rattle.cache_table.proofs.Sums.{weight_yes}
 
@@ -25,7 +25,7 @@ gap_less k None = elim (cases_Bool (0 == k)) [
   | inl t ↦ rw t (omega arith)
   | inr t ↦ rw t (omega arith)
 ]
-gap_less k (Some h) = elim (cases_Bool (h.region + 1 == k)) [
+gap_less k (Some h) = elim (cases_Bool (place h.region == k)) [
   | inl t ↦ rw t (elim (cases_Bool (nat_lt h.gap.upto h.gap.end)) [
     | inl u ↦ rw u (omega arith)
     | inr u ↦ rw u (omega arith)

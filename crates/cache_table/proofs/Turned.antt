@@ -19,7 +19,7 @@ use Rattle.cache_door.specs.declared.answers.Want.{Want}
 use Rattle.cache_door.specs.Machine.{no_gap, gap_on, hold_on}
 use Rattle.cache_door.specs.Good.{hold_ticket, hold_gap}
 use Rattle.cache_table.specs.Abouts.{About}
-use Rattle.cache_table.specs.Rule.{tickets, gaps, by_hold, by_tracker, at_of, value, weight, Suits, tag_of, holds_of}
+use Rattle.cache_table.specs.Rule.{place, tickets, gaps, by_hold, by_tracker, at_of, value, weight, Suits, tag_of, holds_of}
 use Rattle.cache_table.specs.Plays.{Changes, Moves, faulted, HasHold, HasHolds}
 use Rattle.cache_table.proofs.Sums.{weight_yes, weight_no}
 use Rattle.cache_table.proofs.Owns.{empty_weighs}
@@ -158,12 +158,12 @@ claimed_parts tw gw k sub t (Some run) h at p a b c some gaps f =
     let e : hold_gap f h ≡ f (least_unused (ids t.gaps)) run.start run.end = rw (c, l) refl in
     omega (arith, weight_no k (hold_gap f) None (λ e. omega arith), weight_yes k (hold_gap f) (Some h) at, gw.opened f run t, e)
 
-pub moves_claimed : TicketWeights → GapWeights → (k range : ℕ) (r : ℕ) (want : Want) (c : Region) → r + 1 ≡ k → IfSome (claim_run range want.sub c) (λ g. g.start < g.end)
+pub moves_claimed : TicketWeights → GapWeights → (k range : ℕ) (r : ℕ) (want : Want) (c : Region) → place r ≡ k → IfSome (claim_run range want.sub c) (λ g. g.start < g.end)
     → Moves k None (Some (hold_on range r want c)) c.tracker (cells.claim range want.sub c).tracker
 moves_claimed tw gw k range r want c at some = claimed_parts tw gw k want.sub c.tracker (claim_run range want.sub c) (hold_on range r want c) at (omega (arith, at)) refl refl refl some
 
 -- a claim on a cell that was made anew where nothing was claimed
-pub moves_fresh : TicketWeights → GapWeights → (k range : ℕ) (r : ℕ) (want : Want) (t : Tracker) (c : Region) → r + 1 ≡ k → (t.tickets ≡ []) × (t.gaps ≡ []) → (c.tracker.tickets ≡ []) × (c.tracker.gaps ≡ []) → IfSome (claim_run range want.sub c) (λ g. g.start < g.end)
+pub moves_fresh : TicketWeights → GapWeights → (k range : ℕ) (r : ℕ) (want : Want) (t : Tracker) (c : Region) → place r ≡ k → (t.tickets ≡ []) × (t.gaps ≡ []) → (c.tracker.tickets ≡ []) × (c.tracker.gaps ≡ []) → IfSome (claim_run range want.sub c) (λ g. g.start < g.end)
     → Moves k None (Some (hold_on range r want c)) t (cells.claim range want.sub c).tracker
 moves_fresh tw gw k range r want t c at a b some x f = omega (arith, moves_claimed tw gw k range r want c at some x f, empty_weighs x f t a.0 a.1, empty_weighs x f c.tracker b.0 b.1)
 

@@ -9,7 +9,7 @@ use Rattle.cache_policy.specs.Kept as policies
 use Rattle.region_cell.specs.Cells.{CellView}
 use Rattle.region_cell.specs.Cells as cells
 use Rattle.cache_table.specs.Abouts.{About}
-use Rattle.cache_table.specs.Rule.{at_of, tag_held, tag_of, holds_of, has_hold}
+use Rattle.cache_table.specs.Rule.{last_place, at_of, tag_held, tag_of, holds_of, has_hold}
 use Rattle.cache_table.specs.declared.view.View.{View}
 use Rattle.cache_table.specs.declared.home.Home.{Home}
 use Rattle.cache_table.specs.declared.home.Home.TheVariants.{Policy, Cell}
@@ -30,9 +30,9 @@ pub record IsKept {A F : Type 0} (told : Bool) (files : ℕ → ℕ → List ℕ
   pub home : get_elem? s.homes 0 ≡ some (some (Policy policy))
   pub listed : policies.IsGood policy
   pub regions : length policy.tags ≡ a.config.regions
-  pub holders : (k : ℕ) → 0 < k → k ≤ a.config.regions → total (has_hold k) s.views ≡ holds_of (slice_index s.words k)
+  pub holders : (k : ℕ) → 0 < k → k ≤ last_place a → total (has_hold k) s.views ≡ holds_of (slice_index s.words k)
   pub keys : (j : ℕ) (v : View) → get_elem? s.views j ≡ some v → 0 < at_of v.hold → tag_of (slice_index s.words (at_of v.hold)) ≡ tag_held v.hold
-  pub bytes : (k : ℕ) → 0 < k → k ≤ a.config.regions → slice_index s.words k % 2 ≡ 0 → CellKept told files s k
+  pub bytes : (k : ℕ) → 0 < k → k ≤ last_place a → k % 8 ≡ 0 → slice_index s.words k % 2 ≡ 0 → CellKept told files s k
 
 -- In every state that the rule allows of a table with some key, the cache is kept so while nobody has the cache's turn.
 abbrev pub Keeps : {A F K : Type 0} → Bool → (ℕ → ℕ → List ℕ) → (K → About) → (K → State (Home A F) View → Type 0) → Type 0

@@ -1,5 +1,7 @@
 -- What the calls tell of the pass: what each leaves as it was, and the cause of each answer in the pass's note.
-use Rattle.std.specs.Prelude.{◌≡◌, ◌≢◌, ◌⊎◌, ℕ, ◌+◌, ◌/◌, ◌%◌, ◌<◌, ◌≤◌, ◌==◌, Bool, true, IsTrue, List, [], ◌∷◌, ◌++◌, length, take, drop, Option, Some, None, Result, Ok, Err, All}
+use mathlib.Core.Option.{some}
+use lib.ListN.{get_elem?}
+use Rattle.std.specs.Prelude.{◌≡◌, ◌≢◌, ◌⊎◌, ℕ, zero, suc, ◌+◌, ◌*◌, ◌/◌, ◌%◌, ◌<◌, ◌≤◌, ◌==◌, Bool, true, IsTrue, List, [], ◌∷◌, ◌++◌, length, take, drop, Option, Some, None, Result, Ok, Err, All}
 use Rattle.std.proofs.Common.{refl, ◌∙◌}
 use Rattle.std.specs.List.{list_any}
 use Rattle.atomic_table.specs.Table.{Me, rest}
@@ -19,7 +21,7 @@ use Rattle.cache_table.specs.Abouts.{About}
 use Rattle.cache_table.specs.declared.view.View.{View}
 use Rattle.cache_table.specs.declared.home.Home.{Home}
 use Rattle.cache_table.specs.declared.home.Home.TheVariants.{Policy, Cell, Away}
-use Rattle.cache_table.specs.Rule.{Suits, Governs, tag_of, count_in}
+use Rattle.cache_table.specs.Rule.{place, Suits, Governs, tag_of, count_in}
 use Rattle.cache_table.specs.Plays.{popped, spent}
 
 -- between two turns a pass has only looked
@@ -53,7 +55,7 @@ OnTop k w v = v.turns ≡ (k, w / 2) ∷ popped v.turns
 abbrev pub InHand : {A F : Type 0} → ℕ → Me (Home A F) View → Type 0
 InHand k m = m.1 ≡ (k, Away) ∷ rest m.1
 
--- a policy, and then n cells that hold no key
+-- a cell that holds no key, and nothing where no place is
 abbrev pub IsFreeCell : {A F : Type 0} → Bool → (ℕ → ℕ → List ℕ) → About → Home A F → Type 0
 IsFreeCell told files a (Policy p) = ⊥
 IsFreeCell told files a Away = ⊥
@@ -64,9 +66,25 @@ IsFreePolicy a (Policy p) = Governs a p
 IsFreePolicy a Away = ⊥
 IsFreePolicy a (Cell c) = ⊥
 
+abbrev pub IsSpace : {A F : Type 0} → Bool → (ℕ → ℕ → List ℕ) → About → Home A F → Type 0
+IsSpace told files a (Policy p) = ⊥
+IsSpace told files a Away = Unit {0}
+IsSpace told files a (Cell c) = Suits told files a 18446744073709551360 c × (c.metadata.region.tracker.tickets ≡ []) × (c.metadata.region.tracker.gaps ≡ [])
+
+-- n slots with nothing behind others
+abbrev pub aways : {A F : Type 0} → ℕ → List (Home A F) → List (Home A F)
+aways zero ys = ys
+aways (suc n) ys = aways n ys ++ Away ∷ []
+
+-- a policy, and then n cells that hold no key, each behind seven slots with nothing
+pub record AreSpaced {A F : Type 0} (told : Bool) (files : ℕ → ℕ → List ℕ) (a : About) (n : ℕ) (ys : List (Home A F)) : Type 0 where
+  pub count : length ys ≡ 8 * n
+  pub each : All (IsSpace told files a) ys
+  pub cells : (r : ℕ) → r < n → (y : Home A F) × (get_elem? ys (8 * r + 7) ≡ some y) × IsFreeCell told files a y
+
 abbrev pub AreCells : {A F : Type 0} → Bool → (ℕ → ℕ → List ℕ) → About → ℕ → List (Home A F) → Type 0
 AreCells told files a n [] = ⊥
-AreCells told files a n (y ∷ ys) = IsFreePolicy a y × All (IsFreeCell told files a) ys × (length ys ≡ n)
+AreCells told files a n (y ∷ ys) = IsFreePolicy a y × AreSpaced told files a n ys
 
 -- no turn is taken, and the pass is not spent
 pub record AtRest {A F : Type 0} (a : About) (m : Me (Home A F) View) : Type 0 where
@@ -163,7 +181,7 @@ IsHeld a want t = (hold_view (Some t.1) ≡ entered_hold want t.0) × IsEntry a.
 
 -- these regions are among those found held
 abbrev pub FoundAll : List ℕ → List ℕ → Type 0
-FoundAll rs found = (r : ℕ) → 0 < times_in r rs → 0 < count_in (r + 1) found
+FoundAll rs found = (r : ℕ) → 0 < times_in r rs → 0 < count_in (place r) found
 
 -- the policy after the first n free regions were passed over: each is leaving
 abbrev pub PassedOver : ℕ → PolicyView → PolicyView → Type 0

@@ -17,7 +17,7 @@ use Rattle.cache_table.specs.Abouts.{About}
 use Rattle.cache_table.specs.declared.view.View.{View}
 use Rattle.cache_table.specs.declared.choice.Standing.{Standing}
 use Rattle.cache_table.specs.declared.choice.Standing.TheVariants.{Free, Leaving, Mapped}
-use Rattle.cache_table.specs.Rule.{count_in}
+use Rattle.cache_table.specs.Rule.{place, count_in}
 use Rattle.cache_table.specs.declared.home.Home.{Home}
 use Rattle.cache_table.specs.Calls.{Stays, SameCacheTurn, InCache, Faults, FoundAll, PassedOver}
 
@@ -50,12 +50,12 @@ IsChoice r p found = (0 < times_in r p.free + times_in r p.leaving)
 pub record IsFull (p : PolicyView) (found : List ℕ) : Type 0 where
   pub free : FoundAll p.free found
   pub leaving : FoundAll p.leaving found
-  pub mapped : (r : ℕ) → 0 < times r p.lists → 0 < count_in (r + 1) found
+  pub mapped : (r : ℕ) → 0 < times r p.lists → 0 < count_in (place r) found
 
 -- what is left to be mapped: the policy p does not map the key, or maps it to a region whose cell was noted with another key or length, which is leaving in q
 abbrev pub Unmapped : Want → List (ℕ × ℕ × ℕ) → PolicyView → PolicyView → Type 0
 Unmapped want noted p q = ((q ≡ p) × ((s : ℕ) → tag_at p s ≢ Some (key_tag want.key)))
-    ⊎ ((r : ℕ) × (q ≡ leave r p) × (tag_at p r ≡ Some (key_tag want.key)) × (differs (r + 1) want noted ≡ true) × ((s : ℕ) → tag_at q s ≡ (if s == r then None else tag_at p s)))
+    ⊎ ((r : ℕ) × (q ≡ leave r p) × (tag_at p r ≡ Some (key_tag want.key)) × (differs (place r) want noted ≡ true) × ((s : ℕ) → tag_at q s ≡ (if s == r then None else tag_at p s)))
 
 -- a cell of what is wanted, with all bytes absent
 abbrev pub blank : Want → Region
@@ -81,14 +81,14 @@ pub record Inside {A F : Type 0} (a : About) (w : ℕ) (h : Option Hold) (m n : 
 
 -- p maps the key to no region whose cell was not noted with another key or length
 abbrev pub IsOther : Want → PolicyView → View → Type 0
-IsOther want p v = (s : ℕ) → tag_at p s ≡ Some (key_tag want.key) → differs (s + 1) want v.noted ≡ true
+IsOther want p v = (s : ℕ) → tag_at p s ≡ Some (key_tag want.key) → differs (place s) want v.noted ≡ true
 
 -- p maps the key to the region r, whose cell was not noted with another key or length: r is touched, and the gap is a claim on its cell as noted
 pub record EntersMapped (a : About) (want : Want) (now r : ℕ) (gap : Option ByteRange) (p q : PolicyView) (v : View) : Type 0 where
   pub mapped : tag_at p r ≡ Some (key_tag want.key)
-  pub noted : differs (r + 1) want v.noted ≡ false
+  pub noted : differs (place r) want v.noted ≡ false
   pub touched : q ≡ touch r now p
-  pub cell : v.last_region ≡ r + 1
+  pub cell : v.last_region ≡ place r
   pub claimed : gap ≡ claim_run a.config.range want.sub v.cell.region
 
 -- Else q maps the key to the region r, and the gap is a claim on absent bytes. In p the region had the key, was free or leaving, or was a candidate,
@@ -102,7 +102,7 @@ pub record EntersOther (a : About) (want : Want) (r : ℕ) (gap : Option ByteRan
 
 -- every region was found held, p maps the key to none whose cell was noted so, and no other key is lost
 pub record FindsNoRoom (a : About) (want : Want) (p q : PolicyView) (v : View) : Type 0 where
-  pub held : (r : ℕ) → r < a.config.regions → 0 < count_in (r + 1) v.found_held
+  pub held : (r : ℕ) → r < a.config.regions → 0 < count_in (place r) v.found_held
   pub other : IsOther want p v
   pub others : (s t : ℕ) → t ≢ key_tag want.key → tag_at p s ≡ Some t → tag_at q s ≡ Some t
 

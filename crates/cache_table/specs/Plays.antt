@@ -11,7 +11,7 @@ use Rattle.cache_table.specs.Abouts.{About}
 use Rattle.cache_table.specs.declared.view.View.{View}
 use Rattle.cache_table.specs.declared.home.Home.{Home}
 use Rattle.cache_table.specs.declared.home.Home.TheVariants.{Policy, Cell, Away}
-use Rattle.cache_table.specs.Rule.{Fits, holds_of, tag_of, tag_held, at_of, weight, Part, by_hold, by_tracker, newcomer, count_in}
+use Rattle.cache_table.specs.Rule.{last_place, Fits, holds_of, tag_of, tag_held, at_of, weight, Part, by_hold, by_tracker, newcomer, count_in}
 
 -- the region joins those found held where its word shows a hold and the view has none
 abbrev pub found_held : ℕ → ℕ → View → List ℕ
@@ -64,7 +64,7 @@ gave_cell h c v = record v { turns = popped v.turns; hold = h; faults = v.faults
 
 -- the mount whose word stands at the place k
 abbrev pub mount_at : ℕ → View → ℕ
-mount_at k v = k - (v.about.config.regions + 1)
+mount_at k v = k - (last_place v.about + 1)
 
 -- a load of the word w of a mount
 abbrev pub looked_mount : ℕ → ℕ → View → View

@@ -1,5 +1,6 @@
 -- The rule of the table: what holds between any two steps, whichever pass takes them.
--- Word 0 is the cache's, word r + 1 that of region r, and the words of the 4,096 mounts come behind. A turn word is 256 * tag + 2 * holds + turn:
+-- Word 0 is the cache's, word 8 * (r + 1) that of region r, and the words of the 4,096 mounts come behind. The words and slots between them are
+-- never touched: so no two regions' words or slots lie in one line of a processor's memory, 64 bytes, and turns of two regions don't get in each other's way. A turn word is 256 * tag + 2 * holds + turn:
 -- the turn is 1 where it is taken, and the cache's word has neither tag nor holds. A mount word is 0 where the mount is new, 1 where it is live, 2 where it is gone.
 use Rattle.std.specs.Prelude.{◌≡◌, ◌≢◌, ℕ, zero, suc, ◌+◌, ◌*◌, ◌/◌, ◌%◌, ◌<◌, ◌≤◌, ◌==◌, Bool, false, IsTrue, List, [], ◌∷◌, length, slice_index, cond, Option, Some, None}
 use mathlib.Core.Option as core
@@ -31,10 +32,17 @@ times k (t ∷ ts) = cond (t.0 == k) 1 0 + times k ts
 abbrev pub has_turn : ℕ → View → ℕ
 has_turn k v = times k v.turns
 
+-- the place of a region's word and slot, and the last of these places
+abbrev pub place : ℕ → ℕ
+place r = 8 * (r + 1)
+
+abbrev pub last_place : About → ℕ
+last_place a = 8 * a.config.regions
+
 -- the place of the word of the region held, or 0, and the tag of the key
 abbrev pub at_of : Option Hold → ℕ
 at_of None = 0
-at_of (Some h) = h.region + 1
+at_of (Some h) = place h.region
 
 abbrev pub tag_held : Option Hold → ℕ
 tag_held None = 0
@@ -127,29 +135,29 @@ module _ {A F : Type 0} where
 pub record Sound (a : About) (words : List ℕ) (v : View) : Type 0 where
   pub about : 0 < v.shares → v.about ≡ a
   -- the word of each turn that it has shows the turn taken, and the other bits are as it noted them
-  pub noted : Noted a.config.regions words v.turns
+  pub noted : Noted (last_place a) words v.turns
   -- it has at most one region's turn, which is the one of its last region turn
   pub one_region : regions_in v.turns ≤ 1
   pub last : (k : ℕ) → 0 < k → 0 < times k v.turns → v.last_region ≡ k
   -- its hold's tag is that of the region's word
-  pub tagged : 0 < at_of v.hold → (at_of v.hold ≤ a.config.regions) × (tag_of (slice_index words (at_of v.hold)) ≡ tag_held v.hold)
+  pub tagged : 0 < at_of v.hold → (at_of v.hold ≤ last_place a) × (tag_of (slice_index words (at_of v.hold)) ≡ tag_held v.hold)
   -- a mount that it has unmounted or seen gone has a gone word
-  pub gone : (m : ℕ) → 0 < count_in m v.unmounted + count_in m v.gone → (m < 4096) × (slice_index words (a.config.regions + 1 + m) ≡ 2)
+  pub gone : (m : ℕ) → 0 < count_in m v.unmounted + count_in m v.gone → (m < 4096) × (slice_index words (last_place a + 1 + m) ≡ 2)
   -- without a share it is spent: it has no turn and no hold, and its lists are empty
   pub spent : v.shares ≡ 0 → (v.turns ≡ []) × (v.hold ≡ None) × (v.unmounted ≡ []) × (v.gone ≡ [])
 
 pub record Ruled {A F : Type 0} (told : Bool) (files : ℕ → ℕ → List ℕ) (a : About) (s : State (Home A F) View) : Type 0 where
-  pub wide : length s.words ≡ a.config.regions + 1 + 4096
-  pub deep : length s.homes ≡ a.config.regions + 1
+  pub wide : length s.words ≡ last_place a + 1 + 4096
+  pub deep : length s.homes ≡ last_place a + 1
   -- a turn word shows its turn taken exactly where one view has that turn, and no two views have it
-  pub turns : (k : ℕ) → k ≤ a.config.regions → total (has_turn k) s.views ≡ slice_index s.words k % 2
+  pub turns : (k : ℕ) → k ≤ last_place a → total (has_turn k) s.views ≡ slice_index s.words k % 2
   -- a slot is home exactly where its turn is free: the cache's slot has a good policy, and a region's a good cell whose tag is its word's
-  pub free : (k : ℕ) → k ≤ a.config.regions → slice_index s.words k % 2 ≡ 0 → Shelved told files a s.homes k (slice_index s.words k)
-  pub taken : (k : ℕ) → k ≤ a.config.regions → slice_index s.words k % 2 ≡ 1 → get_elem? s.homes k ≡ some none
+  pub free : (k : ℕ) → k ≤ last_place a → slice_index s.words k % 2 ≡ 0 → k % 8 ≡ 0 → Shelved told files a s.homes k (slice_index s.words k)
+  pub taken : (k : ℕ) → k ≤ last_place a → slice_index s.words k % 2 ≡ 1 → get_elem? s.homes k ≡ some none
   -- a region word's hold number is the number of views with a hold on that region
-  pub held : (k : ℕ) → 0 < k → k ≤ a.config.regions → total (has_hold k) s.views ≡ holds_of (slice_index s.words k)
+  pub held : (k : ℕ) → 0 < k → k ≤ last_place a → total (has_hold k) s.views ≡ holds_of (slice_index s.words k)
   -- a mount whose word is gone is among the unmounted of some view
-  pub unmounted : (m : ℕ) → m < 4096 → slice_index s.words (a.config.regions + 1 + m) ≡ 2 → 0 < total (has_unmounted m) s.views
+  pub unmounted : (m : ℕ) → m < 4096 → slice_index s.words (last_place a + 1 + m) ≡ 2 → 0 < total (has_unmounted m) s.views
   -- what each view alone shows: its turns, its hold's tag, and the gone words of its mounts
   pub sound : (j : ℕ) (v : View) → get_elem? s.views j ≡ some v → Sound a s.words v
   pub all_shares : total shares s.views ≡ 64
@@ -160,11 +168,12 @@ pub record Ruled {A F : Type 0} (told : Bool) (files : ℕ → ℕ → List ℕ)
 
 -- the table before any step: each turn is free, nothing is held, and no mount is gone
 pub record Fresh {A F : Type 0} (told : Bool) (files : ℕ → ℕ → List ℕ) (a : About) (words : List ℕ) (slots : List (Home A F)) : Type 0 where
-  pub wide : length words ≡ a.config.regions + 1 + 4096
-  pub deep : length slots ≡ a.config.regions + 1
-  pub free : (k : ℕ) → k ≤ a.config.regions → (slice_index words k % 2 ≡ 0) × (holds_of (slice_index words k) ≡ 0) × (y : Home A F) × (get_elem? slots k ≡ some y) × Fits told files a k (slice_index words k) y
+  pub wide : length words ≡ last_place a + 1 + 4096
+  pub deep : length slots ≡ last_place a + 1
+  pub free : (k : ℕ) → k ≤ last_place a → (slice_index words k % 2 ≡ 0) × (holds_of (slice_index words k) ≡ 0)
+  pub home : (k : ℕ) → k ≤ last_place a → k % 8 ≡ 0 → (y : Home A F) × (get_elem? slots k ≡ some y) × Fits told files a k (slice_index words k) y
   pub unclaimed : (k : ℕ) (c : CellView) → 0 < k → get_elem? slots k ≡ some (Cell c) → (c.metadata.region.tracker.tickets ≡ []) × (c.metadata.region.tracker.gaps ≡ [])
-  pub alive : (m : ℕ) → m < 4096 → slice_index words (a.config.regions + 1 + m) ≢ 2
+  pub alive : (m : ℕ) → m < 4096 → slice_index words (last_place a + 1 + m) ≢ 2
 
 abbrev pub no_metadata : CellMetadata
 no_metadata = record { region = record { tag = free_tag; tracker = new_tracker 0 }; frame = record { faults = 0; size = 0; tells = false; steady = false }; range = 0 }

@@ -2,7 +2,7 @@
 ghost use Rattle.std.specs.Prelude.{◌≡◌, ◌≢◌, ℕ, ◌+◌, ◌*◌, ◌/◌, ◌%◌, ◌<◌, ◌≤◌, [], ◌∷◌, List};
 ghost use Rattle.blob_parts.specs.Content.{content};
 ghost use Rattle.atomic_table.specs.Table.{rest};
-ghost use Rattle.cache_table.specs.Rule.{Fits, regions_in, times};
+ghost use Rattle.cache_table.specs.Rule.{last_place, Fits, regions_in, times};
 ghost use Rattle.cache_table.specs.Plays.{Changes, Settles, gave, looked, lost, Taken};
 ghost use Rattle.cache_table.specs.Calls.{Waited, OnTop, InHand};
 
@@ -18,7 +18,10 @@ use sparse_tracker::{gap_weights, ticket_weights};
 use std::alloc::Global;
 use std::marker::Model;
 use std::sync::Wait;
-use std::thread;
+use std::{hint, thread};
+
+// How often who waits for a turn looks again before the processor is handed on. A turn is short.
+const SPINS: u32 = 64;
 
 pub type Place<A, F> = Seat<Home<A, F>, View>;
 
@@ -33,7 +36,7 @@ pub struct SharedCache<A: Archive, F: Frame> {
 }
 
 impl<A: Archive, F: Frame> Model for SharedCache<A, F> {
-    ghost use Rattle.std.specs.Prelude.{◌≡◌, ◌+◌};
+    ghost use Rattle.std.specs.Prelude.{◌≡◌, ◌+◌, ◌*◌};
     ghost use Rattle.region_ranges.specs.Keys.{IsConfig};
     ghost use Rattle.cache_table.specs.Keys.{about_of};
     ghost use Rattle.cache_table.specs.Views.{CacheView};
@@ -45,15 +48,15 @@ impl<A: Archive, F: Frame> Model for SharedCache<A, F> {
     ghost invariant = { λ c.
         (c.config ≡ c.table.shared.key.config)
         × IsConfig c.config
-        × (c.table.shared.table_id.words ≡ c.config.regions + 1 + 4096)
-        × (c.table.shared.table_id.slots ≡ c.config.regions + 1) };
+        × (c.table.shared.table_id.words ≡ 8 * c.config.regions + 1 + 4096)
+        × (c.table.shared.table_id.slots ≡ 8 * c.config.regions + 1) };
 }
 
 impl<A: Archive + Drop, F: Frame + Drop> SharedCache<A, F> {
     // One try, with the word that was loaded last, of the same place. The word as it was found.
     pub(crate) fn try_take(&self, seat: &mut Place<A, F>, at: usize, seen: u64) -> u64
         requires id { seat.old.table_id ≡ self.now.id }
-        requires place { (at ≤ self.now.about.config.regions) × (seen % 2 ≡ 0) }
+        requires place { (at ≤ last_place self.now.about) × (at % 8 ≡ 0) × (seen % 2 ≡ 0) }
         requires may { (0 < seat.old.me.0.shares) × (0 < at → regions_in seat.old.me.0.turns ≡ 0) }
         requires tried { seat.old.me.0.loaded ≡ (at, seen) }
         ensures id { (seat.new.table_id ≡ seat.old.table_id) × (seat.new.id ≡ seat.old.id) }
@@ -70,7 +73,7 @@ impl<A: Archive + Drop, F: Frame + Drop> SharedCache<A, F> {
     // A turn word is loaded only by who does not have its turn.
     pub(crate) fn look(&self, seat: &mut Place<A, F>, at: usize) -> u64
         requires id { seat.old.table_id ≡ self.now.id }
-        requires place { at ≤ self.now.about.config.regions }
+        requires place { at ≤ last_place self.now.about }
         requires other { times at seat.old.me.0.turns ≡ 0 }
         ensures id { (seat.new.table_id ≡ seat.old.table_id) × (seat.new.id ≡ seat.old.id) }
         ensures looked { seat.new.me ≡ (looked at result seat.old.me.0, seat.old.me.1) }
@@ -78,10 +81,11 @@ impl<A: Archive + Drop, F: Frame + Drop> SharedCache<A, F> {
         self.table.shared.load::<Look>(seat, at)
     }
 
-    // Waits for the turn. The word at which it was taken.
+    // Waits for the turn, first by looking again, then by handing the processor on each time. The word at which it was
+    // taken.
     pub(crate) fn take<R: Wait>(&self, rt: &R, seat: &mut Place<A, F>, at: usize) -> u64
         requires id { seat.old.table_id ≡ self.now.id }
-        requires place { at ≤ self.now.about.config.regions }
+        requires place { (at ≤ last_place self.now.about) × (at % 8 ≡ 0) }
         requires may { (0 < seat.old.me.0.shares) × (0 < at → regions_in seat.old.me.0.turns ≡ 0) }
         requires other { times at seat.old.me.0.turns ≡ 0 }
         ensures id { (seat.new.table_id ≡ seat.old.table_id) × (seat.new.id ≡ seat.old.id) }
@@ -89,12 +93,18 @@ impl<A: Archive + Drop, F: Frame + Drop> SharedCache<A, F> {
         ensures took { (m : _) × Waited seat.old.me.0 m × Taken A.tells (content A.blobs) at result (m, seat.old.me.1)
             seat.new.me }
     {
+        let mut tries = 0;
         for _ in rt.forever() {
             let seen = self.look(seat, at);
             if seen % 2 == 0 && self.try_take(seat, at, seen) == seen {
                 return seen;
             }
-            thread::yield_now();
+            if tries < SPINS {
+                tries += 1;
+                hint::spin_loop();
+            } else {
+                thread::yield_now();
+            }
         }
         unreachable!()
     }
@@ -110,7 +120,7 @@ impl<A: Archive + Drop, F: Frame + Drop> SharedCache<A, F> {
         _hold: Option<Hold>,
     )
         requires id { seat.old.table_id ≡ self.now.id }
-        requires place { (at ≤ self.now.about.config.regions) × (word % 2 ≡ 0) × (new % 2 ≡ 0) }
+        requires place { (at ≤ last_place self.now.about) × (word % 2 ≡ 0) × (new % 2 ≡ 0) }
         requires may { 0 < seat.old.me.0.shares }
         requires turn { OnTop at word seat.old.me.0 × InHand at seat.old.me }
         requires changes { Changes at (word + 1) new seat.old.me.0.hold H.hold }

@@ -12,6 +12,7 @@ ghost use Rattle.cache_door.specs.declared.answers.Glance.TheVariants as glance;
 ghost use Rattle.cache_door.specs.Doors.{hold_view, entry_hold, stored_hold, failed_hold, nothing, FitsGap, IsWant};
 ghost use Rattle.cache_door.specs.Doors.{HasLength, IsEntry, Works, no_work, entry_work, take_work, glance_work};
 ghost use Rattle.cache_door.specs.Doors.{store_work};
+ghost use Rattle.cache_table.specs.Rule.{place};
 ghost use Rattle.cache_table.specs.Calls.{Stays, StaysBut, Faults, Glanced, IsMarked, TookRegion};
 ghost use Rattle.cache_table.specs.Views.{IsOf};
 
@@ -40,7 +41,7 @@ impl<A: Archive + Drop, F: Frame + Drop> SharedCache<A, F> {
         ensures work { Works pass.old.work pass.new.work (take_work result) }
         ensures waited { result ≢ taken.Waiting }
         ensures turns { (pass.old.view.region_turns < pass.new.view.region_turns)
-            × (pass.new.view.last_region ≡ (hold_view pass.old.view.hold).region + 1)
+            × (pass.new.view.last_region ≡ place (hold_view pass.old.view.hold).region)
             × (pass.new.view.cache_turns ≡ pass.old.view.cache_turns) }
         ensures tag { pass.new.view.cell.region.tag ≡ (hold_view pass.old.view.hold).tag }
         ensures marked { result ≡ taken.Failed → IfSome pass.old.view.hold (λ h.
@@ -79,7 +80,7 @@ impl<A: Archive + Drop, F: Frame + Drop> SharedCache<A, F> {
         ensures hold { hold_view pass.new.view.hold ≡ stored_hold (length piece.now.bytes) result
             (hold_view pass.old.view.hold) }
         ensures work { Works pass.old.work pass.new.work (store_work (length piece.now.bytes) result) }
-        ensures turn { TookRegion ((hold_view pass.old.view.hold).region + 1) pass.old.view pass.new.view }
+        ensures turn { TookRegion (place (hold_view pass.old.view.hold).region) pass.old.view pass.new.view }
         ensures tag { pass.new.view.cell.region.tag ≡ (hold_view pass.old.view.hold).tag }
         ensures faults { Faults self.now.about (IsErr result) pass.old.view pass.new.view }
     {
@@ -107,7 +108,7 @@ impl<A: Archive + Drop, F: Frame + Drop> SharedCache<A, F> {
         ensures stays { Stays pass.old.view pass.new.view }
         ensures hold { hold_view pass.new.view.hold ≡ failed_hold (hold_view pass.old.view.hold) }
         ensures work { Works pass.old.work pass.new.work no_work }
-        ensures turn { TookRegion ((hold_view pass.old.view.hold).region + 1) pass.old.view pass.new.view }
+        ensures turn { TookRegion (place (hold_view pass.old.view.hold).region) pass.old.view pass.new.view }
         ensures tag { pass.new.view.cell.region.tag ≡ (hold_view pass.old.view.hold).tag }
         ensures faults { Faults self.now.about ⊥ pass.old.view pass.new.view }
     {
@@ -131,7 +132,7 @@ impl<A: Archive + Drop, F: Frame + Drop> SharedCache<A, F> {
         ensures stays { Stays pass.old.view pass.new.view }
         ensures hold { pass.new.view.hold ≡ None }
         ensures work { Works pass.old.work pass.new.work no_work }
-        ensures turn { TookRegion ((hold_view pass.old.view.hold).region + 1) pass.old.view pass.new.view }
+        ensures turn { TookRegion (place (hold_view pass.old.view.hold).region) pass.old.view pass.new.view }
         ensures tag { pass.new.view.cell.region.tag ≡ (hold_view pass.old.view.hold).tag }
         ensures faults { Faults self.now.about ⊥ pass.old.view pass.new.view }
     {
@@ -169,7 +170,7 @@ impl<A: Archive + Drop, F: Frame + Drop> SharedCache<A, F> {
         ensures stays { Stays pass.old.view pass.new.view }
         ensures hold { hold_view pass.new.view.hold ≡ nothing }
         ensures work { Works pass.old.work pass.new.work (glance_work result) }
-        ensures cause { Glanced (region + 1) want.now pass.old.view pass.new.view result }
+        ensures cause { Glanced (place region) want.now pass.old.view pass.new.view result }
         ensures faults { Faults self.now.about (result ≡ glance.FrameFault) pass.old.view pass.new.view }
         ensures bytes { IsTrue A.tells → IsTrue self.now.about.tells → result ≡ glance.Copied →
             out.new ≡ slice_of (region_bytes (content A.blobs) self.now.about.config.region (key_tag want.now.key))

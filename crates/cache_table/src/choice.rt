@@ -12,7 +12,7 @@ ghost use Rattle.cache_policy.specs.Ageing.{candidates};
 ghost use Rattle.cache_policy.specs.Kept.{IsGood};
 ghost use Rattle.cache_door.specs.Doors.{IsWant};
 ghost use Rattle.cache_table.specs.declared.home.Home.TheVariants.{Away};
-ghost use Rattle.cache_table.specs.Rule.{Governs, Suits, holds_of, count_in};
+ghost use Rattle.cache_table.specs.Rule.{place, Governs, Suits, holds_of, count_in};
 ghost use Rattle.cache_table.specs.Plays.{Counted};
 ghost use Rattle.cache_table.specs.Calls.{InCache, FoundAll, PassedOver};
 ghost use Rattle.cache_table.specs.Entries.{Scanned, Stands, IsChoice, IsFull, differs};
@@ -54,15 +54,15 @@ impl<A: Archive + Drop, F: Frame + Drop> SharedCache<A, F> {
         ensures scanned { Scanned self.now.about seat.old.me.0 seat.new.me.0 }
         ensures hold { seat.new.me.0.hold ≡ None }
         ensures none { IfNone result (InCache self.now.about _cache seat.new.me
-            × (0 < count_in (region + 1) seat.new.me.0.found_held)) }
-        ensures turn { IfSome result (λ t. (seat.new.me.0.turns ≡ (region + 1, t.1 / 2) ∷ seat.old.me.0.turns)
-            × (seat.new.me.1 ≡ (region + 1, Away) ∷ seat.old.me.1)) }
+            × (0 < count_in (place region) seat.new.me.0.found_held)) }
+        ensures turn { IfSome result (λ t. (seat.new.me.0.turns ≡ (place region, t.1 / 2) ∷ seat.old.me.0.turns)
+            × (seat.new.me.1 ≡ (place region, Away) ∷ seat.old.me.1)) }
         ensures region { IfSome result (λ t. t.0 ≡ region) }
         ensures place { IfSome result (λ t. t.0 < self.now.about.config.regions) }
         ensures cell { IfSome result (λ t. (t.1 % 2 ≡ 0) × (holds_of t.1 ≡ 0) × (t.2.metadata ≡ seat.new.me.0.cell)
             × Suits A.tells (content A.blobs) self.now.about t.1 t.2 × Counted t.1 t.2.metadata.region.tracker) }
     {
-        let at = region as usize + 1;
+        let at = 8 * (region as usize + 1);
         let (word, cell) = self.take_cell(rt, seat, at);
         if word / 2 % 128 == 0 {
             return Some((region, word, cell));
@@ -94,8 +94,8 @@ impl<A: Archive + Drop, F: Frame + Drop> SharedCache<A, F> {
         ensures passed { (n : ℕ) × PassedOver n policy.old policy.new
             × FoundAll (take n policy.old.free) seat.new.me.0.found_held }
         ensures none { IfNone result (InCache self.now.about _cache seat.new.me × (policy.new.free ≡ [])) }
-        ensures turn { IfSome result (λ t. (seat.new.me.0.turns ≡ (t.0 + 1, t.1 / 2) ∷ seat.old.me.0.turns)
-            × (seat.new.me.1 ≡ (t.0 + 1, Away) ∷ seat.old.me.1)) }
+        ensures turn { IfSome result (λ t. (seat.new.me.0.turns ≡ (place t.0, t.1 / 2) ∷ seat.old.me.0.turns)
+            × (seat.new.me.1 ≡ (place t.0, Away) ∷ seat.old.me.1)) }
         ensures place { IfSome result (λ t. t.0 < self.now.about.config.regions) }
         ensures front { IfSome result (λ t. head policy.new.free ≡ Some t.0) }
         ensures cell { IfSome result (λ t. (t.1 % 2 ≡ 0) × (holds_of t.1 ≡ 0) × (t.2.metadata ≡ seat.new.me.0.cell)
@@ -130,8 +130,8 @@ impl<A: Archive + Drop, F: Frame + Drop> SharedCache<A, F> {
         ensures hold { seat.new.me.0.hold ≡ None }
         ensures none { IfNone result (InCache self.now.about _cache seat.new.me
             × FoundAll policy.now.leaving seat.new.me.0.found_held) }
-        ensures turn { IfSome result (λ t. (seat.new.me.0.turns ≡ (t.0 + 1, t.1 / 2) ∷ seat.old.me.0.turns)
-            × (seat.new.me.1 ≡ (t.0 + 1, Away) ∷ seat.old.me.1)) }
+        ensures turn { IfSome result (λ t. (seat.new.me.0.turns ≡ (place t.0, t.1 / 2) ∷ seat.old.me.0.turns)
+            × (seat.new.me.1 ≡ (place t.0, Away) ∷ seat.old.me.1)) }
         ensures place { IfSome result (λ t. t.0 < self.now.about.config.regions) }
         ensures leaving { IfSome result (λ t. 0 < times_in t.0 policy.now.leaving) }
         ensures cell { IfSome result (λ t. (t.1 % 2 ≡ 0) × (holds_of t.1 ≡ 0) × (t.2.metadata ≡ seat.new.me.0.cell)
@@ -162,9 +162,9 @@ impl<A: Archive + Drop, F: Frame + Drop> SharedCache<A, F> {
         ensures scanned { Scanned self.now.about seat.old.me.0 seat.new.me.0 }
         ensures hold { seat.new.me.0.hold ≡ None }
         ensures none { IfNone result (InCache self.now.about _cache seat.new.me
-            × ((r : ℕ) → 0 < times r policy.now.lists → 0 < count_in (r + 1) seat.new.me.0.found_held)) }
-        ensures turn { IfSome result (λ t. (seat.new.me.0.turns ≡ (t.0 + 1, t.1 / 2) ∷ seat.old.me.0.turns)
-            × (seat.new.me.1 ≡ (t.0 + 1, Away) ∷ seat.old.me.1)) }
+            × ((r : ℕ) → 0 < times r policy.now.lists → 0 < count_in (place r) seat.new.me.0.found_held)) }
+        ensures turn { IfSome result (λ t. (seat.new.me.0.turns ≡ (place t.0, t.1 / 2) ∷ seat.old.me.0.turns)
+            × (seat.new.me.1 ≡ (place t.0, Away) ∷ seat.old.me.1)) }
         ensures place { IfSome result (λ t. t.0 < self.now.about.config.regions) }
         ensures mapped { IfSome result (λ t. IsSome (tag_at policy.now t.0)) }
         ensures earlier { IfSome result (λ t. (i : ℕ) × (slice_get (candidates policy.now) i ≡ Some t.0)
@@ -207,8 +207,8 @@ impl<A: Archive + Drop, F: Frame + Drop> SharedCache<A, F> {
         ensures passed { (n : ℕ) × PassedOver n policy.old policy.new }
         ensures none { IfNone result (InCache self.now.about _cache seat.new.me
             × IsFull policy.old seat.new.me.0.found_held) }
-        ensures turn { IfSome result (λ t. (seat.new.me.0.turns ≡ (t.1.0 + 1, t.1.1 / 2) ∷ seat.old.me.0.turns)
-            × (seat.new.me.1 ≡ (t.1.0 + 1, Away) ∷ seat.old.me.1)) }
+        ensures turn { IfSome result (λ t. (seat.new.me.0.turns ≡ (place t.1.0, t.1.1 / 2) ∷ seat.old.me.0.turns)
+            × (seat.new.me.1 ≡ (place t.1.0, Away) ∷ seat.old.me.1)) }
         ensures place { IfSome result (λ t. t.1.0 < self.now.about.config.regions) }
         ensures stands { IfSome result (λ t. Stands t.0 t.1.0 policy.new) }
         ensures choice { IfSome result (λ t. IsChoice t.1.0 policy.old seat.new.me.0.found_held) }

@@ -13,6 +13,7 @@ ghost use Rattle.cache_door.specs.Doors.{hold_view, nothing, entry_hold, stored_
 ghost use Rattle.cache_door.specs.Doors.{no_work, entry_work, take_work, glance_work, store_work, FitsGap, IsWant};
 ghost use Rattle.cache_door.specs.Doors.{HasLength, IsEntry, FrameFails, AsHeld, AsWanted, Answers, Becomes};
 ghost use Rattle.cache_door.specs.Doors.{LacksMemory, SameState, entry, entry_answer, storing};
+ghost use Rattle.cache_table.specs.Rule.{place};
 ghost use Rattle.cache_table.specs.Calls.{Glanced, IsMarked, TookRegion, marks};
 ghost use Rattle.cache_table.specs.Doors.{view_at, PassStays};
 ghost use Rattle.cache_table.specs.Entries.{EntersBy, OnlyLeft};
@@ -116,7 +117,7 @@ impl<'a, Rt: Wait, A: Archive + Drop, F: Frame + Drop> CacheDoor<A> for TableDoo
         ensures work { Works self.old.pass.work self.new.pass.work (take_work result) }
         ensures waited { result ≢ taken.Waiting }
         ensures turns { (self.old.pass.view.region_turns < self.new.pass.view.region_turns)
-            × (self.new.pass.view.last_region ≡ (hold_view self.old.pass.view.hold).region + 1) }
+            × (self.new.pass.view.last_region ≡ place (hold_view self.old.pass.view.hold).region) }
         ensures tag { self.new.pass.view.cell.region.tag ≡ (hold_view self.old.pass.view.hold).tag }
         ensures failed { (result ≡ taken.Failed) ↔ IsTrue (lacks (hold_view self.old.pass.view.hold).sub
             self.new.pass.view.cell.region.tracker) }
@@ -139,7 +140,7 @@ impl<'a, Rt: Wait, A: Archive + Drop, F: Frame + Drop> CacheDoor<A> for TableDoo
         ensures hold { hold_view self.new.pass.view.hold ≡ stored_hold (length piece.now.bytes) result
             (hold_view self.old.pass.view.hold) }
         ensures work { Works self.old.pass.work self.new.pass.work (store_work (length piece.now.bytes) result) }
-        ensures turn { TookRegion ((hold_view self.old.pass.view.hold).region + 1) self.old.pass.view
+        ensures turn { TookRegion (place (hold_view self.old.pass.view.hold).region) self.old.pass.view
             self.new.pass.view }
         ensures tag { self.new.pass.view.cell.region.tag ≡ (hold_view self.old.pass.view.hold).tag }
         ensures fault { OnErr result (FrameFails (view_at self.old.cache.now.about self.old.pass)
@@ -160,7 +161,7 @@ impl<'a, Rt: Wait, A: Archive + Drop, F: Frame + Drop> CacheDoor<A> for TableDoo
         ensures unmounted { self.new.pass.view.unmounted ≡ self.old.pass.view.unmounted }
         ensures hold { hold_view self.new.pass.view.hold ≡ failed_hold (hold_view self.old.pass.view.hold) }
         ensures work { Works self.old.pass.work self.new.pass.work no_work }
-        ensures turn { TookRegion ((hold_view self.old.pass.view.hold).region + 1) self.old.pass.view
+        ensures turn { TookRegion (place (hold_view self.old.pass.view.hold).region) self.old.pass.view
             self.new.pass.view }
         ensures tag { self.new.pass.view.cell.region.tag ≡ (hold_view self.old.pass.view.hold).tag }
     {
@@ -175,7 +176,7 @@ impl<'a, Rt: Wait, A: Archive + Drop, F: Frame + Drop> CacheDoor<A> for TableDoo
         ensures unmounted { self.new.pass.view.unmounted ≡ self.old.pass.view.unmounted }
         ensures hold { hold_view self.new.pass.view.hold ≡ nothing }
         ensures work { Works self.old.pass.work self.new.pass.work no_work }
-        ensures turn { TookRegion ((hold_view self.old.pass.view.hold).region + 1) self.old.pass.view
+        ensures turn { TookRegion (place (hold_view self.old.pass.view.hold).region) self.old.pass.view
             self.new.pass.view }
         ensures tag { self.new.pass.view.cell.region.tag ≡ (hold_view self.old.pass.view.hold).tag }
     {
@@ -193,7 +194,7 @@ impl<'a, Rt: Wait, A: Archive + Drop, F: Frame + Drop> CacheDoor<A> for TableDoo
         ensures unmounted { self.new.pass.view.unmounted ≡ self.old.pass.view.unmounted }
         ensures hold { hold_view self.new.pass.view.hold ≡ nothing }
         ensures work { Works self.old.pass.work self.new.pass.work (glance_work result) }
-        ensures cause { Glanced (region + 1) want.now self.old.pass.view self.new.pass.view result }
+        ensures cause { Glanced (place region) want.now self.old.pass.view self.new.pass.view result }
         ensures fault { result ≡ glance.FrameFault → FrameFails (view_at self.old.cache.now.about self.old.pass)
             (view_at self.new.cache.now.about self.new.pass) }
         ensures bytes { result ≡ glance.Copied → AsWanted A.tells (content A.blobs)

@@ -13,7 +13,7 @@ ghost use Rattle.cache_door.specs.Machine.{hold_on};
 ghost use Rattle.cache_door.specs.Claims.{IsGap};
 ghost use Rattle.cache_door.specs.Doors.{IsWant, HasLength, IsEntry, hold_view};
 ghost use Rattle.cache_door.specs.declared.answers.Entered.TheVariants.{Held, NoRoom, Gone};
-ghost use Rattle.cache_table.specs.Rule.{Governs, Suits, count_in};
+ghost use Rattle.cache_table.specs.Rule.{place, Governs, Suits, count_in};
 ghost use Rattle.cache_table.specs.Calls.{AtRest, Faults, Stays, InCache, hold_in, IsHeld, entered_hold};
 ghost use Rattle.cache_table.specs.Calls.{PassedOver};
 ghost use Rattle.cache_table.specs.Entries.{Inside, differs, Unmapped, EntersChosen, IsFull, IsChoice, OnlyLeft};
@@ -50,12 +50,12 @@ impl<A: Archive + Drop, F: Frame + Drop> SharedCache<A, F> {
         ensures id { (seat.new.table_id ≡ seat.old.table_id) × (seat.new.id ≡ seat.old.id) }
         ensures within { Inside self.now.about _cache (hold_in result) seat.old.me seat.new.me }
         ensures noted { seat.new.me.0.noted ≡ (
-          region + 1,
+          place region,
           seat.new.me.0.cell.region.tag,
           len_of
               seat.new.me.0.cell.region,
         ) ∷ seat.old.me.0.noted }
-        ensures cell { seat.new.me.0.last_region ≡ region + 1 }
+        ensures cell { seat.new.me.0.last_region ≡ place region }
         ensures key { IfOk result (λ o. IfSome o (λ t. (seat.new.me.0.cell.region.tag ≡ key_tag want.now.key)
             × (len_of seat.new.me.0.cell.region ≡ want.now.len))) }
         ensures other { IfOk result (λ o. IfNone o ((seat.new.me.0.cell.region.tag ≢ key_tag want.now.key)
@@ -68,7 +68,7 @@ impl<A: Archive + Drop, F: Frame + Drop> SharedCache<A, F> {
     {
         ticket_weights();
         gap_weights();
-        let at = region as usize + 1;
+        let at = 8 * (region as usize + 1);
         let (word, mut boxed) = self.take_cell(rt, seat, at);
         let cell = boxed.get_mut();
         if word / 256 != want.key.pack() || cell.len() != want.len {
@@ -165,7 +165,7 @@ impl<A: Archive + Drop, F: Frame + Drop> SharedCache<A, F> {
         ) else {
             return Ok(None);
         };
-        let at = region as usize + 1;
+        let at = 8 * (region as usize + 1);
         let cell = boxed.get_mut();
         if let Err(e) = cell.reserve() {
             self.give_cell(seat, at, word, word, boxed, None);

@@ -9,7 +9,7 @@ ghost use Rattle.region_cell.specs.Cells.{region_bytes};
 ghost use Rattle.cache_door.specs.declared.answers.Glance.TheVariants as glance;
 ghost use Rattle.cache_door.specs.Doors.{IsWant};
 ghost use Rattle.cache_table.specs.declared.home.Home.TheVariants.{Away, Cell as the_cell};
-ghost use Rattle.cache_table.specs.Rule.{Suits, regions_in};
+ghost use Rattle.cache_table.specs.Rule.{place, last_place, Suits, regions_in};
 ghost use Rattle.cache_table.specs.Plays.{Counted, lost, took_cell};
 ghost use Rattle.cache_table.specs.Calls.{AtRest, Faults, Stays, Glanced};
 
@@ -29,7 +29,7 @@ impl<A: Archive + Drop, F: Frame + Drop> SharedCache<A, F> {
         seen: u64,
     ) -> Result<Boxed<RegionCell<A, F>>, u64>
         requires id { seat.old.table_id ≡ self.now.id }
-        requires place { (0 < at) × (at ≤ self.now.about.config.regions) × (seen % 2 ≡ 0) }
+        requires place { (0 < at) × (at ≤ last_place self.now.about) × (at % 8 ≡ 0) × (seen % 2 ≡ 0) }
         requires may { (0 < seat.old.me.0.shares) × (regions_in seat.old.me.0.turns ≡ 0) }
         requires about { seat.old.me.0.about ≡ self.now.about }
         requires tried { seat.old.me.0.loaded ≡ (at, seen) }
@@ -64,13 +64,13 @@ impl<A: Archive + Drop, F: Frame + Drop> SharedCache<A, F> {
         ensures id { (seat.new.table_id ≡ seat.old.table_id) × (seat.new.id ≡ seat.old.id) }
         ensures rests { AtRest self.now.about seat.new.me }
         ensures stays { Stays seat.old.me.0 seat.new.me.0 × (seat.new.me.0.hold ≡ None) }
-        ensures cause { Glanced (region + 1) want.now seat.old.me.0 seat.new.me.0 result }
+        ensures cause { Glanced (place region) want.now seat.old.me.0 seat.new.me.0 result }
         ensures faults { Faults self.now.about (result ≡ glance.FrameFault) seat.old.me.0 seat.new.me.0 }
         ensures bytes { IsTrue A.tells → IsTrue self.now.about.tells → result ≡ glance.Copied →
             out.new ≡ slice_of (region_bytes (content A.blobs) self.now.about.config.region (key_tag want.now.key))
             want.now.sub.start (want.now.sub.end - want.now.sub.start) }
     {
-        let at = region as usize + 1;
+        let at = 8 * (region as usize + 1);
         let seen = self.look(seat, at);
         if seen / 256 != want.key.pack() {
             return Glance::Moved(seen);

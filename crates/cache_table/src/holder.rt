@@ -9,6 +9,7 @@ ghost use Rattle.region_cell.specs.Cells.{region_bytes, file_of, part_of};
 ghost use Rattle.region_cell.specs.declared.taken.Taken.TheVariants as taken;
 ghost use Rattle.cache_door.specs.Machine.{no_gap};
 ghost use Rattle.cache_door.specs.Doors.{FitsGap, hold_view};
+ghost use Rattle.cache_table.specs.Rule.{place};
 ghost use Rattle.cache_table.specs.Calls.{AtRest, OneTurn, Faults, Stays, IsMarked};
 
 use crate::cache::{Place, SharedCache};
@@ -36,7 +37,7 @@ impl<A: Archive + Drop, F: Frame + Drop> SharedCache<A, F> {
         requires len { length out.old ≡ hold.now.sub.end - hold.now.sub.start }
         ensures id { (seat.new.table_id ≡ seat.old.table_id) × (seat.new.id ≡ seat.old.id) }
         ensures rests { AtRest self.now.about seat.new.me }
-        ensures turn { OneTurn (hold.now.region + 1) (Some hold.now) seat.old.me.0 seat.new.me.0 }
+        ensures turn { OneTurn (place hold.now.region) (Some hold.now) seat.old.me.0 seat.new.me.0 }
         ensures tag { seat.new.me.0.cell.region.tag ≡ hold.now.tag }
         ensures failed { (result ≡ taken.Failed) ↔ IsTrue (lacks hold.now.sub seat.new.me.0.cell.region.tracker) }
         ensures marked { result ≡ taken.Failed → IsMarked hold.now.ticket seat.new.me.0.cell.region.tracker }
@@ -45,7 +46,7 @@ impl<A: Archive + Drop, F: Frame + Drop> SharedCache<A, F> {
             out.new ≡ slice_of (region_bytes (content A.blobs) self.now.about.config.region hold.now.tag)
             hold.now.sub.start (hold.now.sub.end - hold.now.sub.start) }
     {
-        let at = hold.region as usize + 1;
+        let at = 8 * (hold.region as usize + 1);
         let (word, mut boxed) = self.take_cell(rt, seat, at);
         let cell = boxed.get_mut();
         let taken = cell.copy(hold.ticket, out);
@@ -72,7 +73,7 @@ impl<A: Archive + Drop, F: Frame + Drop> SharedCache<A, F> {
         ensures stays { Stays seat.old.me.0 seat.new.me.0 × (seat.new.me.0.hold ≡ Some hold.now) }
         ensures waited { result ≢ taken.Waiting }
         ensures turns { (seat.old.me.0.region_turns < seat.new.me.0.region_turns)
-            × (seat.new.me.0.last_region ≡ hold.now.region + 1)
+            × (seat.new.me.0.last_region ≡ place hold.now.region)
             × (seat.new.me.0.cache_turns ≡ seat.old.me.0.cache_turns) }
         ensures tag { seat.new.me.0.cell.region.tag ≡ hold.now.tag }
         ensures failed { (result ≡ taken.Failed) ↔ IsTrue (lacks hold.now.sub seat.new.me.0.cell.region.tracker) }
@@ -106,7 +107,7 @@ impl<A: Archive + Drop, F: Frame + Drop> SharedCache<A, F> {
         requires piece { FitsGap self.now.about.config.region (hold_view (Some hold.old)) piece.now }
         ensures id { (seat.new.table_id ≡ seat.old.table_id) × (seat.new.id ≡ seat.old.id) }
         ensures rests { AtRest self.now.about seat.new.me }
-        ensures turn { OneTurn (hold.old.region + 1) (Some hold.new) seat.old.me.0 seat.new.me.0 }
+        ensures turn { OneTurn (place hold.old.region) (Some hold.new) seat.old.me.0 seat.new.me.0 }
         ensures tag { seat.new.me.0.cell.region.tag ≡ hold.old.tag }
         ensures ok { OnOk result (hold.new ≡ record hold.old
             { gap = record hold.old.gap { upto = hold.old.gap.upto + length piece.now.bytes } }) }
@@ -115,7 +116,7 @@ impl<A: Archive + Drop, F: Frame + Drop> SharedCache<A, F> {
     {
         ticket_weights();
         gap_weights();
-        let at = hold.region as usize + 1;
+        let at = 8 * (hold.region as usize + 1);
         let (word, mut boxed) = self.take_cell(rt, seat, at);
         let cell = boxed.get_mut();
         cell.lesson();
@@ -142,14 +143,14 @@ impl<A: Archive + Drop, F: Frame + Drop> SharedCache<A, F> {
         requires open { hold.old.gap.upto < hold.old.gap.end }
         ensures id { (seat.new.table_id ≡ seat.old.table_id) × (seat.new.id ≡ seat.old.id) }
         ensures rests { AtRest self.now.about seat.new.me }
-        ensures turn { OneTurn (hold.old.region + 1) (Some hold.new) seat.old.me.0 seat.new.me.0 }
+        ensures turn { OneTurn (place hold.old.region) (Some hold.new) seat.old.me.0 seat.new.me.0 }
         ensures tag { seat.new.me.0.cell.region.tag ≡ hold.old.tag }
         ensures hold { hold.new ≡ record hold.old { gap = no_gap } }
         ensures faults { Faults self.now.about ⊥ seat.old.me.0 seat.new.me.0 }
     {
         ticket_weights();
         gap_weights();
-        let at = hold.region as usize + 1;
+        let at = 8 * (hold.region as usize + 1);
         let (word, mut boxed) = self.take_cell(rt, seat, at);
         let cell = boxed.get_mut();
         cell.lesson();
@@ -167,13 +168,13 @@ impl<A: Archive + Drop, F: Frame + Drop> SharedCache<A, F> {
         requires closed { hold.now.gap.end ≤ hold.now.gap.upto }
         ensures id { (seat.new.table_id ≡ seat.old.table_id) × (seat.new.id ≡ seat.old.id) }
         ensures rests { AtRest self.now.about seat.new.me }
-        ensures turn { OneTurn (hold.now.region + 1) None seat.old.me.0 seat.new.me.0 }
+        ensures turn { OneTurn (place hold.now.region) None seat.old.me.0 seat.new.me.0 }
         ensures tag { seat.new.me.0.cell.region.tag ≡ hold.now.tag }
         ensures faults { Faults self.now.about ⊥ seat.old.me.0 seat.new.me.0 }
     {
         ticket_weights();
         gap_weights();
-        let at = hold.region as usize + 1;
+        let at = 8 * (hold.region as usize + 1);
         let (word, mut boxed) = self.take_cell(rt, seat, at);
         let cell = boxed.get_mut();
         cell.lesson();

@@ -1,5 +1,6 @@
 //! The mounts' words: each is new, live or gone.
 ghost use Rattle.std.specs.Prelude.{◌↔◌, ◌≡◌, ◌+◌, ◌<◌, ◌≤◌, [], ◌∷◌, IsTrue, false};
+ghost use Rattle.cache_table.specs.Rule.{last_place};
 ghost use Rattle.cache_table.specs.Calls.{StaysBut};
 
 use crate::cache::{Place, SharedCache};
@@ -17,10 +18,10 @@ impl<A: Archive + Drop, F: Frame + Drop> SharedCache<A, F> {
         ensures word { seat.new.me.0.mount_word ≡ (mount, seat.new.me.0.loaded.1) }
         ensures two { IsTrue result ↔ (seat.new.me.0.loaded.1 ≡ 2) }
         ensures seen { (seat.new.me.0.looks ≡ seat.old.me.0.looks + 1)
-            × (IsTrue result → seat.new.me.0.loaded ≡ (self.now.about.config.regions + 1 + mount, 2)) }
+            × (IsTrue result → seat.new.me.0.loaded ≡ (last_place self.now.about + 1 + mount, 2)) }
         ensures stays { StaysBut seat.old.me.0 seat.new.me.0 × (seat.new.me.0.unmounted ≡ seat.old.me.0.unmounted) }
     {
-        let at = self.config.regions as usize + 1 + mount as usize;
+        let at = 8 * self.config.regions as usize + 1 + mount as usize;
         self.table.shared.load::<LookMount>(seat, at) == 2
     }
 
@@ -30,7 +31,7 @@ impl<A: Archive + Drop, F: Frame + Drop> SharedCache<A, F> {
         ensures id { (seat.new.table_id ≡ seat.old.table_id) × (seat.new.id ≡ seat.old.id)
             × (seat.new.me ≡ seat.old.me) }
     {
-        let at = self.config.regions as usize + 1 + mount as usize;
+        let at = 8 * self.config.regions as usize + 1 + mount as usize;
         self.table
             .shared
             .compare_exchange::<SetLive>(seat, at, 0, 1);
@@ -44,7 +45,7 @@ impl<A: Archive + Drop, F: Frame + Drop> SharedCache<A, F> {
         ensures gone { seat.new.me.0.unmounted ≡ mount ∷ seat.old.me.0.unmounted }
         ensures stays { StaysBut seat.old.me.0 seat.new.me.0 × (seat.new.me.0.gone ≡ seat.old.me.0.gone) }
     {
-        let at = self.config.regions as usize + 1 + mount as usize;
+        let at = 8 * self.config.regions as usize + 1 + mount as usize;
         self.table.shared.store::<SetGone>(seat, at, 2);
     }
 }

@@ -1,13 +1,13 @@
 //! Opening and closing a cache.
-ghost use Rattle.std.specs.Prelude.{◌≡◌, ℕ, ◌+◌, ◌<◌, ◌≤◌, List, [], ◌∷◌, ◌++◌, length, replicate, IfOk, IsTrue, All};
+ghost use Rattle.std.specs.Prelude.{◌≡◌, ℕ, ◌+◌, ◌<◌, ◌≤◌, List, [], ◌∷◌, ◌++◌, length, replicate, IfOk, OnOk, IsTrue, All};
 ghost use Rattle.std.specs.Prelude.{map};
 ghost use Rattle.blob_parts.specs.Content.{content};
 ghost use Rattle.region_ranges.specs.Keys.{IsConfig};
 ghost use Rattle.cache_door.specs.Doors.{no_work, hold_view, nothing};
 ghost use Rattle.cache_table.specs.Keys.{about_of};
-ghost use Rattle.cache_table.specs.Opened.{opened_with};
+ghost use Rattle.cache_table.specs.Opened.{opened_with, free_words};
 ghost use Rattle.cache_table.specs.Rule.{newcomer, Suits};
-ghost use Rattle.cache_table.specs.Calls.{AreCells};
+ghost use Rattle.cache_table.specs.Calls.{AreCells, aways};
 ghost use Rattle.cache_table.specs.Views.{IsOf};
 
 use crate::boxed::Boxed;
@@ -28,15 +28,16 @@ use std::marker::PhantomData;
 // The word of a free region.
 const FREE: u64 = 18_446_744_073_709_551_360;
 
-// The words of a cache in which all is free and each mount is new.
+// The words of a cache in which all is free and each mount is new. Seven words that are never touched stand before each
+// region's.
 #[tactic(auto, using(std::proofs::lemmas::List::replicate_more))]
 fn words_of(alloc: Global, regions: u32) -> Result<Vec<u64>, AllocError>
-    ensures { IfOk result (λ v. v.items ≡ (0 ∷ replicate regions 18446744073709551360) ++ replicate 4096 0) }
+    ensures { IfOk result (λ v. v.items ≡ (0 ∷ free_words regions) ++ replicate 4096 0) }
 {
     let mut words = Vec::new(alloc);
     words.push(0)?;
     for _ in 0..regions {
-        words.push(FREE)?;
+        words.extend_from_slice(&[0, 0, 0, 0, 0, 0, 0, FREE])?;
     }
     for _ in 0..4096u32 {
         words.push(0)?;
@@ -62,7 +63,19 @@ fn cell_of<A: Archive + Drop, F: Frame + Drop>(
     cell
 }
 
-// A policy, and a cell for each frame.
+// Seven slots with nothing.
+fn put_aways<A: Archive + Drop, F: Frame + Drop>(
+    slots: &mut Vec<Home<A, F>>,
+) -> Result<(), AllocError>
+    ensures { OnOk result (slots.new.items ≡ aways 7 slots.old.items) }
+{
+    for _ in 0..7u32 {
+        slots.push(Home::Away)?;
+    }
+    Ok(())
+}
+
+// A policy, and a cell for each frame, behind seven slots with nothing.
 fn slots_of<A: Archive + Drop, F: Frame + Drop>(
     alloc: Global,
     key: &Key<F>,
@@ -83,6 +96,7 @@ fn slots_of<A: Archive + Drop, F: Frame + Drop>(
     for frame in frames {
         let cell = cell_of(alloc, key, frame);
         let boxed = Boxed::new(alloc, cell)?;
+        put_aways(&mut slots)?;
         slots.push(Home::Cell(boxed))?;
     }
     Ok(slots)

@@ -64,7 +64,7 @@ impl<A: Archive + Drop, F: Frame + Drop> SharedCache<A, F> {
         let mut at = 0;
         while at < policy.leaving_len() {
             let region = policy.leaving_at(at);
-            let word = self.look(seat, region as usize + 1);
+            let word = self.look(seat, 8 * (region as usize + 1));
             if word / 2 % 128 == 0 {
                 policy.settle(region);
                 policy.lesson();

@@ -6,7 +6,7 @@ ghost use Rattle.blob_parts.specs.Content.{content};
 ghost use Rattle.atomic_table.specs.Table.{rest};
 ghost use Rattle.region_cell.specs.Cells.{len_of};
 ghost use Rattle.cache_table.specs.declared.home.Home.TheVariants.{Away, Cell as the_cell};
-ghost use Rattle.cache_table.specs.Rule.{Governs, Suits, at_of, tag_held, tag_of, holds_of, count_in, regions_in};
+ghost use Rattle.cache_table.specs.Rule.{last_place, Governs, Suits, at_of, tag_held, tag_of, holds_of, count_in, regions_in};
 ghost use Rattle.cache_table.specs.Plays.{Changes, Moves, popped, Counted, HasHolds, lost, took_cell, faulted};
 ghost use Rattle.cache_table.specs.Calls.{OnTop, InHand, Stays, SameCacheTurn};
 
@@ -81,7 +81,7 @@ impl<A: Archive + Drop, F: Frame + Drop> SharedCache<A, F> {
         at: usize,
     ) -> (u64, Boxed<RegionCell<A, F>>)
         requires id { seat.old.table_id ≡ self.now.id }
-        requires place { (0 < at) × (at ≤ self.now.about.config.regions) }
+        requires place { (0 < at) × (at ≤ last_place self.now.about) × (at % 8 ≡ 0) }
         requires may { (0 < seat.old.me.0.shares) × (regions_in seat.old.me.0.turns ≡ 0) }
         requires about { seat.old.me.0.about ≡ self.now.about }
         ensures id { (seat.new.table_id ≡ seat.old.table_id) × (seat.new.id ≡ seat.old.id) }
@@ -123,7 +123,7 @@ impl<A: Archive + Drop, F: Frame + Drop> SharedCache<A, F> {
         _hold: Option<Hold>,
     )
         requires id { seat.old.table_id ≡ self.now.id }
-        requires place { (0 < at) × (at ≤ self.now.about.config.regions) × (word % 2 ≡ 0) × (new % 2 ≡ 0) }
+        requires place { (0 < at) × (at ≤ last_place self.now.about) × (word % 2 ≡ 0) × (new % 2 ≡ 0) }
         requires may { 0 < seat.old.me.0.shares }
         requires turn { OnTop at word seat.old.me.0 × InHand at seat.old.me }
         requires home { Suits A.tells (content A.blobs) self.now.about new cell }

@@ -44,6 +44,7 @@ fn main(rt: HostRuntime) -> ExitCode {
         mut frames,
         mut clock,
     } = handed;
+    program::keep_memory(rt.alloc());
     let outcome = mount_tool::<_, Untold, _, _, _, _, _>(
         &rt,
         rt.alloc(),

@@ -4,11 +4,23 @@ ghost use Rattle.std.specs.Prelude.{◌≤◌, IfOk, length};
 use crate::note::note;
 use cache_frame::MemFrames;
 use cache_outside::{FolderSource, Sink, StdClock, StdText};
+use std::alloc::Global;
 use std::rt::{Env, Files};
 use std::{env, io, time};
 
 /// How many sources are made over the folder.
 const SOURCES: usize = 8;
+
+/// The bytes of a block that is taken once and given back.
+const BLOCK: usize = 16 * 1_048_576;
+
+/// Has the C library keep memory that is given back for what is taken next, up to twice the block. Else it gives the end
+/// of its heap back to the system as soon as 128 KiB are free there, and each line of a script has to get it again, page by
+/// page; that a large block was given back raises this limit (mallopt(3), M_MMAP_THRESHOLD). No byte of the block is
+/// touched. Where it cannot be had, nothing changes.
+pub(crate) fn keep_memory(alloc: Global) {
+    let _ = Vec::<u8>::with_capacity(alloc, BLOCK);
+}
 
 /// The arguments without the program's name. The error is `InvalidData` where one is no UTF-8.
 pub(crate) fn arguments<Rt: Env + AllocGlobal>(rt: &Rt) -> io::Result<Vec<String>> {

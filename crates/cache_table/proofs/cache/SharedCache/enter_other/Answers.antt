@@ -5,6 +5,7 @@ use Rattle.region_ranges.specs.Keys.{tag_of as key_tag}
 use Rattle.cache_policy.specs.Policy.{PolicyView, tag_at}
 use Rattle.region_cell.specs.Cells.{CellView, CellMetadata, claim_run}
 use Rattle.cache_door.specs.declared.hold.Hold.{Hold}
+use Rattle.cache_table.specs.Rule.{place}
 use Rattle.cache_table.specs.Plays.{popped}
 use Rattle.cache_table.specs.Calls.{Stays-on}
 use Rattle.cache_table.specs.Entries.{IsChoice, blank}
@@ -17,13 +18,13 @@ give_cell-requires-2-clause-place g c = (omega arith, (let p = c.in-Some.ensures
 
 pub give_cell-requires-2-clause-changes : goal.give_cell-requires-2-clause-changes
 give_cell-requires-2-clause-changes g c = let h = c.claim_anew-gap.ensures.hold in
-    changes_new (c.in-Some.region + 1) c.in-Some.word c.pack.result c.choose.new.seat.me.0.hold c.claim_anew-gap.result.0 c.choose.ensures.hold (ap (λ (z : Hold). z.region + 1) h) (ap (λ (z : Hold). z.tag) h ∙ sym c.pack.ensures.value) c.in-Some.ensures.cell.0 c.in-Some.ensures.cell.1
+    changes_new (place c.in-Some.region) c.in-Some.word c.pack.result c.choose.new.seat.me.0.hold c.claim_anew-gap.result.0 c.choose.ensures.hold (ap (λ (z : Hold). place z.region) h) (ap (λ (z : Hold). z.tag) h ∙ sym c.pack.ensures.value) c.in-Some.ensures.cell.0 c.in-Some.ensures.cell.1
 
 pub give_cell-requires-2-clause-moves : goal.give_cell-requires-2-clause-moves
 give_cell-requires-2-clause-moves g c =
     let k = c.claim_anew-gap.ensures in let x = c.in-Some.boxed in let y = c.reserve.new.self in let e = c.in-Some.ensures.cell in
-    moves_as (c.in-Some.region + 1) c.choose.ensures.hold (ap (λ (h : Hold). Some h) k.hold) (ap (λ (n : CellMetadata). n.region.tracker) (sym e.2)) (ap (λ (v : CellView). v.metadata.region.tracker) k.cell)
-    (moves_fresh c.ticket_weights.ensures c.gap_weights.ensures (c.in-Some.region + 1) y.metadata.range c.in-Some.region c.args.want.now x.metadata.region.tracker (blank c.args.want.now) refl (e.4.none e.1) (refl, refl) (some_run _ _ _ _ _ k.gap k.inside))
+    moves_as (place c.in-Some.region) c.choose.ensures.hold (ap (λ (h : Hold). Some h) k.hold) (ap (λ (n : CellMetadata). n.region.tracker) (sym e.2)) (ap (λ (v : CellView). v.metadata.region.tracker) k.cell)
+    (moves_fresh c.ticket_weights.ensures c.gap_weights.ensures (place c.in-Some.region) y.metadata.range c.in-Some.region c.args.want.now x.metadata.region.tracker (blank c.args.want.now) refl (e.4.none e.1) (refl, refl) (some_run _ _ _ _ _ k.gap k.inside))
 
 pub returns-clause-within : goal.returns-clause-within
 returns-clause-within g c =

@@ -1,6 +1,6 @@
 use Rattle.std.proofs.Common.{rules, arith, ◌∙◌, ap, ◌+◌, ◌++◌, ◌∷◌, [], refl, length}
 use Rattle.cache_policy.specs.Policy.{PolicyView}
-use Rattle.cache_table.specs.Rule.{regions_in}
+use Rattle.cache_table.specs.Rule.{place, regions_in}
 use Rattle.cache_table.proofs.Sums.{no_region}
 use Rattle.cache_table.proofs.Settles.{leaving_times, leaving_near, settle_more, settle_shorter}
 use Rattle.cache_table.proofs.cache.SharedCache.settle_unheld.Goals as goal
@@ -9,10 +9,10 @@ pub loop-at-init : goal.loop-at-init
 loop-at-init g c = (omega arith, refl, refl, c.requires.turn, refl, c.requires.policy, ([], refl))
 
 pub look-word-requires-clause-place : goal.look-word-requires-clause-place
-look-word-requires-clause-place g c = leaving_near c.args.self.now.about c.loop-at.policy c.loop-at.at c.leaving_at-region.result c.loop-at.invariant.5 (let l = c.leaving_len.ensures in let t = c.loop-at-test.true in omega arith) c.leaving_at-region.ensures
+look-word-requires-clause-place g c = let n = leaving_near c.args.self.now.about c.loop-at.policy c.loop-at.at c.leaving_at-region.result c.loop-at.invariant.5 (let l = c.leaving_len.ensures in let t = c.loop-at-test.true in omega arith) c.leaving_at-region.ensures in omega arith
 
 pub look-word-requires-clause-other : goal.look-word-requires-clause-other
-look-word-requires-clause-other g c = no_region c.loop-at.seat.me.0.turns (c.leaving_at-region.result + 1) (omega arith) (ap regions_in c.loop-at.invariant.3.turns)
+look-word-requires-clause-other g c = no_region c.loop-at.seat.me.0.turns (place c.leaving_at-region.result) (omega arith) (ap regions_in c.loop-at.invariant.3.turns)
 
 pub settle-requires : goal.settle-requires
 settle-requires g c = leaving_times c.loop-at.policy c.loop-at.at c.leaving_at-region.result (let l = c.leaving_len.ensures in let t = c.loop-at-test.true in omega arith) c.leaving_at-region.ensures

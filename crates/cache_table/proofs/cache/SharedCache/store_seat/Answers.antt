@@ -2,7 +2,7 @@ use Rattle.std.proofs.Common.{arith, ◌∙◌, sym, ap, subst, ◌<◌, ◌+◌
 use Rattle.std.specs.Prelude.{length}
 use Rattle.region_cell.specs.Cells.{CellView, CellMetadata, Region}
 use Rattle.cache_door.specs.declared.hold.Hold.{Hold}
-use Rattle.cache_table.specs.Rule.{at_of}
+use Rattle.cache_table.specs.Rule.{place, at_of}
 use Rattle.cache_table.specs.Plays.{HasHolds}
 use Rattle.cache_table.proofs.Turned.{moves_as, moves_stored, held_owns}
 use Rattle.cache_table.proofs.cache.SharedCache.store_seat.Goals as goal
@@ -15,5 +15,5 @@ give_cell-requires-clause-moves g c =
     let opened : h.gap.upto < h.gap.end = (let s = c.requires.piece.some in let i = c.requires.piece.inside in omega arith) in
     let there = own.gap opened in
     let stored = rw there at c.in-Ok.ensures.ok in
-    moves_as (h.region + 1) (e.hold ∙ c.requires.held) (ap (λ (q : Hold). Some q) c.stored.ensures ∙ ap (λ (l : List ℕ). let q : Hold = record h { gap = record h.gap { upto = h.gap.upto + length l } } in Some q) c.bytes.ensures.value) (ap (λ (n : CellMetadata). n.region.tracker) (sym e.cell.0 ∙ ap (λ (v : CellView). v.metadata) (sym c.get_mut-cell.ensures.value))) (ap (λ (r : Region). r.tracker) stored.region)
-    (moves_stored c.ticket_weights.ensures c.gap_weights.ensures (h.region + 1) (h.gap.upto + n) h t refl opened c.requires.piece.inside there)
+    moves_as (place h.region) (e.hold ∙ c.requires.held) (ap (λ (q : Hold). Some q) c.stored.ensures ∙ ap (λ (l : List ℕ). let q : Hold = record h { gap = record h.gap { upto = h.gap.upto + length l } } in Some q) c.bytes.ensures.value) (ap (λ (n : CellMetadata). n.region.tracker) (sym e.cell.0 ∙ ap (λ (v : CellView). v.metadata) (sym c.get_mut-cell.ensures.value))) (ap (λ (r : Region). r.tracker) stored.region)
+    (moves_stored c.ticket_weights.ensures c.gap_weights.ensures (place h.region) (h.gap.upto + n) h t refl opened c.requires.piece.inside there)

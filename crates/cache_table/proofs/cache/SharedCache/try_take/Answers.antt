@@ -10,5 +10,5 @@ compare_exchange-requires g c = let is = c.self.view_is in let n : c.self.inside
   c.requires.id ∙ sym (ap (λ (v : CacheView). v.id) is),
   (let s = c.self.invariant.2 in let p = c.requires.place.0 in omega (arith, n, k)),
   takes_turn g.A.Archive.tells (content g.A.Archive.blobs) g.row.A.Denot g.row.F.Denot c.ticket_weights.ensures c.gap_weights.ensures (about_of g.F.Frame.view c.self.inside.table.shared.key) _ _ _ c.args.at c.args.seen
-      (let p = c.requires.place.0 in omega (arith, n)) c.requires.place.1 c.requires.may.0 c.requires.may.1,
+      (let p = c.requires.place.0 in omega (arith, n)) c.requires.place.1 c.requires.place.2 c.requires.may.0 c.requires.may.1,
 )
