@@ -8,13 +8,14 @@ Prints the seconds on the clock and the processor seconds of
 - 6,000 reads of 4 KiB in one block that all hit.
 
 Of each script the same without these lines, mounts and a first pass that fills the cache, is timed too; quotients are those of
-what the lines take more. Every run is made RUNS times, and the least of each is printed, with the load of the machine before
-the first run.
+what the lines take more. Every run is made RUNS times, in turns, and the least of each is printed, and the quotient of the
+least and that in the middle of the runs, with the load of the machine before the first run.
 
 usage: bench/workers.py [RUNS [PROGRAM]]
 """
 import os
 import resource
+import statistics
 import subprocess
 import sys
 import tempfile
@@ -26,33 +27,38 @@ from runs import MIB, write_file
 WORKERS = (1, 2, 4, 8)
 
 
-def measured(words, script, runs):
-    """The least seconds on the clock, and the least processor seconds."""
-    clock, processor = [], []
-    for _ in range(runs):
-        before = resource.getrusage(resource.RUSAGE_CHILDREN)
-        start = time.monotonic()
-        done = subprocess.run(words, input=script, stdout=subprocess.DEVNULL, check=False)
-        clock.append(time.monotonic() - start)
-        after = resource.getrusage(resource.RUSAGE_CHILDREN)
-        if done.returncode != 0:
-            sys.exit("%s: status %d" % (" ".join(words), done.returncode))
-        processor.append(after.ru_utime + after.ru_stime - before.ru_utime - before.ru_stime)
-    return min(clock), min(processor)
+def once(words, script):
+    """The seconds on the clock, and the processor seconds."""
+    before = resource.getrusage(resource.RUSAGE_CHILDREN)
+    start = time.monotonic()
+    done = subprocess.run(words, input=script, stdout=subprocess.DEVNULL, check=False)
+    clock = time.monotonic() - start
+    after = resource.getrusage(resource.RUSAGE_CHILDREN)
+    if done.returncode != 0:
+        sys.exit("%s: status %d" % (" ".join(words), done.returncode))
+    return clock, after.ru_utime + after.ru_stime - before.ru_utime - before.ru_stime
 
 
 def compared(name, words, first, lines, runs):
     """A line for each number of workers: the script without these lines, and with them."""
-    alone = None
+    bare, whole = ({workers: [] for workers in WORKERS} for _ in range(2))
+    for _ in range(runs):
+        # in turns, since the speed of a processor changes from second to second
+        for workers in WORKERS:
+            words_now = [*words, "workers=%d" % workers]
+            bare[workers].append(once(words_now, first.encode()))
+            whole[workers].append(once(words_now, (first + lines).encode()))
+    more = {workers: [w[0] - b[0] for w, b in zip(whole[workers], bare[workers])] for workers in WORKERS}
     for workers in WORKERS:
-        words_now = [*words, "workers=%d" % workers]
-        before = measured(words_now, first.encode(), runs)
-        after = measured(words_now, (first + lines).encode(), runs)
-        alone = alone or after[0] - before[0]
-        clocks = "%.3f s, without these lines %.3f s" % (after[0], before[0])
+        clock, processor = (min(run[part] for run in whole[workers]) for part in range(2))
+        without = min(run[0] for run in bare[workers])
+        alone = min(run[0] for run in whole[1]) - min(run[0] for run in bare[1])
         # below ten milliseconds a difference says nothing
-        times = "" if alone < 0.01 else ", %.2f times the clock of one" % ((after[0] - before[0]) / alone)
-        print("%s, workers=%d: %s, %.3f processor s%s" % (name, workers, clocks, after[1], times))
+        times = ""
+        if alone >= 0.01:
+            middle = statistics.median(now / one for now, one in zip(more[workers], more[1]))
+            times = ", %.2f times the clock of one (in the middle of the runs %.2f)" % ((clock - without) / alone, middle)
+        print("%s, workers=%d: %.3f s, without these lines %.3f s, %.3f processor s%s" % (name, workers, clock, without, processor, times))
 
 
 def search_for_any(numbers, terms):
