@@ -1,8 +1,6 @@
 -- The rule of the table keeps the cache between two steps.
 use Rattle.std.proofs.Common.{◌≡◌, ℕ, zero, suc, refl, ◌<◌, ◌≤◌, Bool, List, arith}
 use Rattle.std.specs.Prelude.{◌%◌, slice_index}
-use mathlib.Core.Option.{some}
-use lib.ListN.{get_elem?}
 use Rattle.atomic_table.specs.Table.{State}
 use Rattle.cache_table.specs.Abouts.{About}
 use Rattle.cache_table.specs.Rule.{last_place, Ruled, Shelved}

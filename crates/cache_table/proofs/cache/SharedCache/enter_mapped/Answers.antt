@@ -1,4 +1,4 @@
-use Rattle.std.proofs.Common.{◌≡◌, ◌∙◌, sym, ap, ◌+◌, refl, Some}
+use Rattle.std.proofs.Common.{◌≡◌, ◌∙◌, sym, ap, refl, Some}
 use Rattle.region_cell.specs.Cells.{CellView, CellMetadata}
 use Rattle.cache_door.specs.declared.hold.Hold.{Hold}
 use Rattle.cache_table.specs.Rule.{place}

@@ -1,4 +1,4 @@
-use Rattle.std.proofs.Common.{arith, ◌≡◌, ◌<◌, ◌+◌, ◌∙◌, ℕ, List, sym, subst, ap, refl, Some}
+use Rattle.std.proofs.Common.{arith, ◌≡◌, ◌<◌, ◌∙◌, ℕ, List, sym, subst, ap, refl, Some}
 use Rattle.std.specs.Prelude.{◌==◌, if◌then◌else◌, IsTrue}
 use Rattle.atomic_table.specs.Table.{rest}
 use Rattle.region_ranges.specs.Keys.{tag_of as key_tag}

@@ -1,4 +1,4 @@
-use Rattle.std.proofs.Common.{◌∙◌, sym, ap, subst, ◌+◌, refl}
+use Rattle.std.proofs.Common.{◌∙◌, sym, ap, subst, refl}
 use Rattle.region_cell.specs.Cells.{CellView, CellMetadata}
 use Rattle.cache_table.specs.Rule.{place, at_of}
 use Rattle.cache_table.specs.Plays.{HasHolds}

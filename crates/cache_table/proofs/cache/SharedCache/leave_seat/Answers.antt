@@ -1,4 +1,4 @@
-use Rattle.std.proofs.Common.{arith, ◌∙◌, sym, ap, subst, ◌+◌, refl, None}
+use Rattle.std.proofs.Common.{arith, ◌∙◌, sym, ap, subst, refl, None}
 use Rattle.region_cell.specs.Cells.{CellView, CellMetadata}
 use Rattle.cache_table.specs.Rule.{place, at_of}
 use Rattle.cache_table.specs.Plays.{HasHolds}

@@ -1,4 +1,4 @@
-use Rattle.std.proofs.Common.{rules, arith, ◌∙◌, ap, ◌+◌, ◌++◌, ◌∷◌, [], refl, length}
+use Rattle.std.proofs.Common.{rules, arith, ◌∙◌, ap, ◌++◌, ◌∷◌, [], refl, length}
 use Rattle.cache_policy.specs.Policy.{PolicyView}
 use Rattle.cache_table.specs.Rule.{place, regions_in}
 use Rattle.cache_table.proofs.Sums.{no_region}
