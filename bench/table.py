@@ -1,13 +1,14 @@
 #!/usr/bin/env python3
-"""Times hits of 4 KiB through the core and through the cache between threads.
+"""Times hits through the core and through the cache between threads.
 
-Builds a small program whose readers find all their bytes in a cache of 32 regions of 64 KiB, in ranges of 4 KiB, and
-runs it RUNS times with ROUNDS reads a thread. Printed are, of each run and of the least times of all runs,
+Builds a small program whose readers find all their bytes in a cache of 32 regions of 64 KiB, in ranges of SIZE bytes
+(4,096 unless given; a divisor of 65,536), a whole range at each read, and runs it RUNS times with ROUNDS reads a thread.
+Printed are, of each run and of the least times of all runs,
 
 - the nanoseconds of a hit of one hot range by one thread, through the core and through the table, and their quotient:
   once each read has a reader of its own, which enters, copies and leaves ("entries"), and once all go through one
   reader, which looks at the region of its last read and finds it as it was ("looks");
-- how many times as fast four threads are as one, each with a pass of its own over the 16 ranges of a region of its own.
+- how many times as fast four threads are as one, each with a pass of its own over the ranges of a region of its own.
   The words of the four regions stand side by side ("near"), or 64 bytes apart ("apart"). An entry takes the cache's
   turn, which only one thread has at a time; a look takes its region's turn alone.
 
@@ -16,7 +17,7 @@ before and after each run. A quotient in brackets counts no time in which a thre
 threads it is what they would come to on processors of their own if none ever waited for another. With few reads a
 thread and many runs the least times come from runs that were not cut short by what else ran.
 
-usage: bench/table.py [RUNS [ROUNDS [COMMIT]]]
+usage: bench/table.py [RUNS [ROUNDS [COMMIT [SIZE]]]]
 """
 import os
 import subprocess
@@ -54,7 +55,7 @@ use std::thread::Threads;
 use std::time::{Clock, CpuClock, Duration, Instant};
 use std::{env, io};
 
-const CONFIG: Config = Config { regions: 32, region: 65_536, range: 4096, max_freq: 100, min_delta: 60_000 };
+const CONFIG: Config = Config { regions: 32, region: 65_536, range: @SIZE@, max_freq: 100, min_delta: 60_000 };
 
 const MANIFEST: &[u8] =
     b"{\"version\":1,\"files\":[{\"name\":\"__b\",\"physical_name\":\"b\",\"length\":2097152}],\"segments\":[]}";
@@ -124,21 +125,21 @@ fn frames(alloc: Global, config: &Config) -> Result<Vec<MemFrame>, AllocError>
 }
 
 // The bytes of one read.
-type Room = [u8; 4096];
+type Room = [u8; @SIZE@];
 
-// Whether 4 KiB were read.
+// Whether they were read.
 fn read_once<B: FileBytes>(bytes: &mut B, at: u64, room: &mut Room) -> bool
     requires file { 0 < (B.view bytes.old).count }
     ensures goes { GoesOn B.goes_by bytes.old bytes.new }
 {
     let length = bytes.len(0);
-    if length < 4096 || at > length - 4096 {
+    if length < @SIZE@ || at > length - @SIZE@ {
         return false;
     }
     bytes.read(0, at, room).is_ok()
 }
 
-// Reads 4 KiB again and again, of one range after the other.
+// Reads a range again and again, one after the other.
 fn read_all<B: FileBytes>(bytes: &mut B, room: &mut Room, plan: Plan)
     requires file { 0 < (B.view bytes.old).count }
     ensures goes { GoesOn B.goes_by bytes.old bytes.new }
@@ -147,7 +148,7 @@ fn read_all<B: FileBytes>(bytes: &mut B, room: &mut Room, plan: Plan)
         return;
     }
     for round in 0..plan.rounds {
-        let at = plan.first.saturating_add((round % plan.ranges).saturating_mul(4096));
+        let at = plan.first.saturating_add((round % plan.ranges).saturating_mul(@SIZE@));
         if !read_once(bytes, at, room) {
             return;
         }
@@ -201,7 +202,7 @@ fn anew<D: CacheDoor<Untold>>(
         return hit;
     }
     for round in 0..plan.rounds {
-        let first = plan.first.saturating_add((round % plan.ranges).saturating_mul(4096));
+        let first = plan.first.saturating_add((round % plan.ranges).saturating_mul(@SIZE@));
         let one = Plan { first, ranges: 1, rounds: 1, anew: false };
         hit = hit.saturating_add(by_one(alloc, door, source, table, config, room, one));
     }
@@ -248,7 +249,7 @@ fn work<R: Wait>(
         return;
     };
     let mut door = TableDoor::new(rt, cache, pass);
-    let mut room = [0; 4096];
+    let mut room = [0; @SIZE@];
     job.hit = reads(alloc, &mut door, &mut job.source, table, config, &mut room, job.plan);
     job.pass = Some(door.into_pass());
 }
@@ -392,8 +393,8 @@ fn by_door<R: Clock + CpuClock + Print, D: CacheDoor<Untold>>(
     ensures hold { (D.view door.new).hold ≡ nothing }
     ensures config { (D.view door.new).config ≡ config.now }
 {
-    let all = Plan { first: 0, ranges: 512, rounds: 512, anew: true };
-    let mut room = [0; 4096];
+    let all = Plan { first: 0, ranges: 2_097_152 / @SIZE@, rounds: 2_097_152 / @SIZE@, anew: true };
+    let mut room = [0; @SIZE@];
     reads(alloc, door, source, table, config, &mut room, all);
     let entries = Plan { first: 0, ranges: 1, rounds, anew: true };
     timed(rt, alloc, door, source, table, config, &mut room, entries, names.0)?;
@@ -450,7 +451,7 @@ fn over_table<R: Clock + CpuClock + Print + Threads + Wait + Sync>(rt: &R, alloc
     let mut door = TableDoor::new(rt, &cache, pass);
     by_door(rt, alloc, &mut door, &mut source, &table, &CONFIG, rounds, ("table_entries", "table_looks"))?;
     let mut pass = door.into_pass();
-    let looks = Plan { first: 0, ranges: 16, rounds, anew: false };
+    let looks = Plan { first: 0, ranges: 65_536 / @SIZE@, rounds, anew: false };
     among(rt, alloc, &cache, &mut pass, &table, 1, 1, looks, "looks")?;
     among(rt, alloc, &cache, &mut pass, &table, 4, 1, looks, "looks")?;
     among(rt, alloc, &cache, &mut pass, &table, 4, 8, looks, "looks")?;
@@ -555,7 +556,7 @@ invariant-loop-job l = IsIdle l.cache l.pass
 }
 
 
-def run(program, rounds):
+def run(program, rounds, size):
     """The seconds by the clock and of the processors, by name, number of threads and distance of the regions."""
     done = subprocess.run([program, str(rounds)], capture_output=True, text=True, check=False)
     if done.returncode != 0:
@@ -564,7 +565,7 @@ def run(program, rounds):
     times = {}
     for told, passed, used in zip(lines[0::3], lines[1::3], lines[2::3]):
         name, threads, apart, hit = told.split()
-        if int(hit) != int(threads) * rounds * 4096:
+        if int(hit) != int(threads) * rounds * size:
             sys.exit("not all of %s hit: %s" % (name, hit))
         times[name, int(threads), int(apart)] = [float(s) + float(n) / 1e9 for s, n in (passed.split(), used.split())]
     return times
@@ -593,14 +594,15 @@ def main():
     runs = int(sys.argv[1]) if len(sys.argv) > 1 else 3
     rounds = int(sys.argv[2]) if len(sys.argv) > 2 else 2_000_000
     commit = sys.argv[3] if len(sys.argv) > 3 else "HEAD"
-    with trial.laid(commit, USES, PROGRAM, PROOFS) as crate:
+    size = int(sys.argv[4]) if len(sys.argv) > 4 else 4096
+    with trial.laid(commit, USES, PROGRAM.replace("@SIZE@", str(size)), PROOFS) as crate:
         trial.output(crate, "rt", "run")
         program = os.path.join(crate, "out", trial.NAME)
-        print("%d processors; %d reads a thread" % (os.cpu_count(), rounds))
+        print("%d processors; %d reads of %d bytes a thread" % (os.cpu_count(), rounds, size))
         least = {}
         for number in range(runs):
             before = load()
-            times = run(program, rounds)
+            times = run(program, rounds, size)
             print("run %d, load %s, then %s" % (number + 1, before, load()))
             tell(times, rounds)
             for key, value in times.items():
