@@ -1,17 +1,16 @@
 -- A part whose bytes are all present in the region that its key is mapped to: an entry claims nothing, and leaving gives the state back.
-use Rattle.std.proofs.Common.{arith, ◌≡◌, ◌<◌, ◌≤◌, ◌+◌, ◌-◌, ◌*◌, ◌/◌, ℕ, zero, suc, Bool, true, false, List, [], ◌∷◌, ◌++◌, sym, subst, ◌∙◌, ap, inl, inr, refl, length, take, drop, set, get_or, Option, Some, None, length-drop, length-take}
-use Rattle.std.specs.Prelude.{◌==◌, ◌&&◌, nat_lt, nat_le, max, not, map, reverse, slice_get, slice_range, option_and_then, IsTrue}
-use Rattle.std.specs.List.{prefix_len, position_from, list_all}
-use Rattle.std.proofs.lemmas.Bool.{cases_Bool, cases_lt, false≢true, and_parts, not-true}
+use Rattle.std.proofs.Common.{arith, ◌≡◌, ◌<◌, ◌≤◌, ◌+◌, ◌-◌, ◌*◌, ◌/◌, ℕ, zero, suc, Bool, true, List, [], ◌∷◌, ◌++◌, sym, subst, ◌∙◌, ap, inl, inr, refl, length, drop, set, get_or, Option, Some, None, length-drop, length-take}
+use Rattle.std.specs.Prelude.{◌==◌, ◌&&◌, nat_le, slice_get, slice_range, option_and_then, IsTrue, min}
+use Rattle.std.specs.List.{position_from, list_all}
+use Rattle.std.proofs.Math.Nat.{lt-div-mul-add, div-mul-le_self}
+use Rattle.std.proofs.lemmas.Bool.{cases_Bool, false≢true, and_parts}
 use Rattle.std.proofs.lemmas.Bool.Decides.{nat_tests}
-use Rattle.std.proofs.lemmas.List.{get_or-drop, get_or-take, get_or-reverse, get_or-set_same}
-use Rattle.std.proofs.lemmas.List.Sums.{prefix_len_passes, prefix_len_stops}
+use Rattle.std.proofs.lemmas.List.{get_or-drop, get_or-take, get_or-set_same}
 use Rattle.region_ranges.specs.declared.ranges.ByteRange.{ByteRange}
 use Rattle.region_ranges.specs.Keys.{tag_of}
-use Rattle.region_ranges.specs.Ranges.{first_run}
 use Rattle.sparse_tracker.specs.declared.tickets.Ticket.{Ticket}
 use Rattle.sparse_tracker.specs.ByteStates as byte_states
-use Rattle.sparse_tracker.specs.ByteStates.{ByteState, absent, pending, present, Tracker, is_absent, is_present, not_behind, least_unused, numbers, new_ticket, with_ticket, without_ticket, open_gap_at}
+use Rattle.sparse_tracker.specs.ByteStates.{ByteState, absent, present, Tracker, is_present, least_unused, numbers, new_ticket, with_ticket, without_ticket, open_gap_at}
 use Rattle.sparse_tracker.specs.Weights.{total}
 use Rattle.cache_policy.specs.Policy.{PolicyView, find, is_tag}
 use Rattle.region_cell.specs.Cells as cells
@@ -30,126 +29,46 @@ use Rattle.cache_reader.specs.declared.part.Last.{Last}
 use Rattle.cache_reader.specs.Parts.{ReadSetting, bytes_of, places_of}
 use Rattle.cache_reader.specs.Alone.{Fits, Outcome, part_outcome, unchanged, entry_of, fetched_by, direct_by}
 use Rattle.cache_reader.proofs.Rooms.{found_inside}
+use Rattle.sparse_tracker.proofs.Spots.{claim_some}
+use Rattle.std.proofs.lemmas.List.Folds.{list_all_at}
+use Rattle.std.proofs.lemmas.Option.{slice_get_within, get_or_from_slice_get}
 use Rattle.cache_policy.proofs.Tags.{not_below, is_tag_at}
 use Rattle.cache_door.proofs.Mapping.{no_weight}
 use Rattle.cache_door.proofs.Frames.{set_twice}
-use Rattle.sparse_tracker.proofs.Spots.{flop}
 use Rattle.cache_door.proofs.OneOwner.{some_none}
 
--- ---- flags of states
+-- ---- a claim over present bytes
 
-abbrev flag : List ByteState → ℕ → Bool
-flag ls i = get_or (map is_absent ls) i false
+no_absent : (ls : List ByteState) (sub : ByteRange) (at : ℕ) → list_all is_present (slice_range ls sub.start sub.end) ≡ true → sub.start ≤ at → at < sub.end → slice_get ls at ≡ Some absent → ⊥
+no_absent ls sub at all low high here =
+    let within = slice_get_within ls at absent here in
+    let there : get_or (slice_range ls sub.start sub.end) (at - sub.start) present ≡ absent =
+    get_or-take (sub.end - sub.start) (drop sub.start ls) (at - sub.start) present (omega (arith, low, high))
+    ∙ get_or-drop sub.start ls (at - sub.start) present
+    ∙ ap (λ (i : ℕ). get_or ls i present) (let e : sub.start + (at - sub.start) ≡ at = omega (arith, low) in e)
+    ∙ get_or_from_slice_get ls at absent present here in
+    let long : length (slice_range ls sub.start sub.end) ≡ min (sub.end - sub.start) (length ls - sub.start) = length-take (sub.end - sub.start) (drop sub.start ls) ∙ ap (λ (n : ℕ). min (sub.end - sub.start) n) (length-drop sub.start ls) in
+    let inside : at - sub.start < length (slice_range ls sub.start sub.end) = omega (arith, long, within, low, high) in
+    false≢true (sym (list_all_at is_present (slice_range ls sub.start sub.end) (at - sub.start) present inside (ap is_present there)) ∙ all)
 
-flag_present : (ls : List ByteState) (i : ℕ) → list_all is_present ls ≡ true → flag ls i ≡ false
-flag_present [] i e = refl
-flag_present (absent ∷ ls) i e = absurd (false≢true e)
-flag_present (pending g ∷ ls) i e = absurd (false≢true e)
-flag_present (present ∷ ls) zero e = refl
-flag_present (present ∷ ls) (suc i) e = flag_present ls i e
+-- it takes nothing
+claim_none : (range : ℕ) (sub : ByteRange) (c : Region) → 0 < range → sub.start < sub.end → sub.end ≤ len_of c → sub.start / range ≡ (sub.end - 1) / range → are_present sub c ≡ true → claim_run range sub c ≡ None
+claim_none range sub c pos some inside one all = by_answer (claim_run range sub c) refl
+  where
+    low : sub.start / range * range ≤ sub.start
+    low = div-mul-le_self sub.start range
 
-flag_take : (k i : ℕ) (ls : List ByteState) → i < k → flag (take k ls) i ≡ flag ls i
-flag_take zero i ls h = absurd (omega (arith, h))
-flag_take (suc k) i [] h = refl
-flag_take (suc k) zero (l ∷ ls) h = refl
-flag_take (suc k) (suc i) (l ∷ ls) h = flag_take k i ls (omega (arith, h))
+    high : sub.end ≤ sub.start / range * range + range
+    high =
+        let last : sub.end - 1 < (sub.end - 1) / range * range + range = lt-div-mul-add {a = sub.end - 1} pos in
+        let row : (sub.end - 1) / range * range ≡ sub.start / range * range = ap (λ n. n * range) (sym one) in
+        omega (arith, last, row, some)
 
-flag_past : (k i : ℕ) (ls : List ByteState) → k ≤ i → flag (take k ls) i ≡ false
-flag_past zero i ls h = refl
-flag_past (suc k) i [] h = refl
-flag_past (suc k) zero (l ∷ ls) h = absurd (omega (arith, h))
-flag_past (suc k) (suc i) (l ∷ ls) h = flag_past k i ls (omega (arith, h))
-
-flag_drop : (k i j : ℕ) (ls : List ByteState) → j ≡ k + i → flag (drop k ls) i ≡ flag ls j
-flag_drop zero i j ls e = let f : i ≡ j = omega (arith, e) in ap (λ n. flag ls n) f
-flag_drop (suc k) i j [] e = refl
-flag_drop (suc k) i zero (l ∷ ls) e = absurd (omega (arith, e))
-flag_drop (suc k) i (suc j) (l ∷ ls) e = flag_drop k i j ls (omega (arith, e))
-
--- where all states of a sub-range are present none of its flags is set
-flag_clear : (ls : List ByteState) (start end n i : ℕ) → list_all is_present (slice_range ls start end) ≡ true → start ≤ i → i < end → i < n → flag (take n ls) i ≡ false
-flag_clear ls start end n i e low high most =
-    flag_take n i ls most
-    ∙ sym (flag_drop start (i - start) i ls (omega (arith, low)))
-    ∙ sym (flag_take (end - start) (i - start) (drop start ls) (omega (arith, low, high)))
-    ∙ flag_present (slice_range ls start end) (i - start) e
-
--- ---- the first run lies behind the sub-range
-
-module _ (free : List Bool) (start : ℕ) (sub : ByteRange) (low : start ≤ sub.start) (some : sub.start < sub.end) (clear : (i : ℕ) → sub.start ≤ i → i < sub.end → get_or free i false ≡ false) where
-  abbrev count : ℕ
-  count = prefix_len not (drop (max sub.start start) free)
-
-  abbrev first : ℕ
-  first = max sub.start start + prefix_len not (drop (max sub.start start) free)
-
-  skipped : (i : ℕ) → max sub.start start ≤ i → i < first → get_or free i false ≡ false
-  skipped i a b =
-      let p = prefix_len_passes not (drop (max sub.start start) free) (i - max sub.start start) false (omega arith) in
-      let s : max sub.start start + (i - max sub.start start) ≡ i = omega arith in
-      let q = get_or-drop (max sub.start start) free (i - max sub.start start) false in
-      not-true (get_or free i false) (ap (λ (k : ℕ). not (get_or free k false)) (sym s) ∙ ap not (sym q) ∙ p)
-
-  reached : first < length free → get_or free first false ≡ true
-  reached h =
-      let l : length (drop (max sub.start start) free) ≡ length free - max sub.start start = length-drop (max sub.start start) free in
-      let p = prefix_len_stops not (drop (max sub.start start) free) false (omega (arith, l, h)) in
-      let q = get_or-drop (max sub.start start) free (prefix_len not (drop (max sub.start start) free)) false in
-      flop (get_or free first false) (ap not (sym q) ∙ p)
-
-  behind : first < length free → sub.end ≤ first
-  behind h = elim (cases_lt first sub.end) [
-    | inr g ↦ g
-    | inl l ↦ absurd (false≢true (sym (clear first (omega arith) l) ∙ reached h))
-  ]
-
-  module _ (f : ℕ) (least : start ≤ f) (h : f < length free) where
-    length-back : length (drop start (take f free)) ≡ f - start
-    length-back = let t : length (take f free) ≡ f = length-take f free ∙ omega (arith, h) in length-drop start (take f free) ∙ ap (λ (k : ℕ). k - start) t
-
-    at_back : (i : ℕ) → i < f - start → get_or (reverse (drop start (take f free))) i false ≡ get_or free (f - 1 - i) false
-    at_back i k =
-        let xs = drop start (take f free) in
-        let l : length xs ≡ f - start = length-back in
-        get_or-reverse xs i false (omega (arith, l, k)) ∙ get_or-drop start (take f free) (length xs - 1 - i) false
-        ∙ get_or-take f free (start + (length xs - 1 - i)) false (omega (arith, l, k))
-        ∙ ap (λ (j : ℕ). get_or free j false) (let e : start + (length xs - 1 - i) ≡ f - 1 - i = omega (arith, l, k) in e)
-
-  -- the run does not begin before it was reached
-  none_back : first < length free → prefix_len (λ b. b) (reverse (drop start (take first free))) ≡ 0
-  none_back h =
-      let n = prefix_len (λ (b : Bool). b) (reverse (drop start (take first free))) in
-      elim (cases_lt 0 n) [
-        | inr z ↦ omega (arith, z)
-        | inl p ↦
-            let e = behind h in
-            let last = at_back first (omega (arith, e, low, some)) h 0 (omega (arith, e, low, some)) in
-            let t = prefix_len_passes (λ (b : Bool). b) (reverse (drop start (take first free))) 0 false p in
-            let c = skipped (first - 1 - 0) (omega (arith, e, low, some)) (omega (arith, e, some)) in
-            absurd (false≢true (sym c ∙ sym last ∙ t))
-      ]
-
-  nothing : not_behind sub (first_run free start sub.start) ≡ None
-  nothing = elim (cases_lt first (length free)) [
-    | inr h ↦ let t : nat_lt (max sub.start start + prefix_len not (drop (max sub.start start) free)) (length free) ≡ false = grind (arith, nat_tests) in rw t refl
-    | inl h ↦
-        let t : nat_lt (max sub.start start + prefix_len not (drop (max sub.start start) free)) (length free) ≡ true = grind (arith, nat_tests) in
-        let z = none_back h in
-        let e = behind h in
-        let m : sub.end ≤ first - 0 = omega (arith, e) in
-        let b : nat_lt (first - 0) sub.end ≡ false = grind (arith, nat_tests) in
-        rw t (rw z (rw b refl))
-  ]
-
--- a claim over present bytes takes nothing
-claim_none : (range : ℕ) (sub : ByteRange) (c : Region) → 0 < range → sub.start < sub.end → are_present sub c ≡ true → claim_run range sub c ≡ None
-claim_none range sub c pos some e =
-    let round = range_round range sub c in
-    let free = map is_absent (take round.end c.tracker.byte_states) in
-    nothing free round.start sub (omega (arith, pos)) some (λ i low high. elim (cases_lt i round.end) [
-      | inl l ↦ flag_clear c.tracker.byte_states sub.start sub.end round.end i e low high l
-      | inr g ↦ flag_past round.end i c.tracker.byte_states g
-    ])
+    by_answer : (o : Option ByteRange) → claim_run range sub c ≡ o → claim_run range sub c ≡ None
+    by_answer None e = e
+    by_answer (Some run) e =
+        let first = claim_some (range_round range sub c) sub run c.tracker low some (omega (arith, high, inside)) (omega arith) e in
+        absurd (no_absent c.tracker.byte_states sub first.0 all first.1.0.within.0 first.1.0.within.1 first.1.0.here)
 
 -- ---- an entry that takes nothing, and the leave behind it
 
@@ -198,11 +117,11 @@ none_total f (y ∷ z ∷ zs) a d l h e = absurd (omega (arith, l))
 
 -- ---- what a look tells
 
-looked : (want : Want) (c : Region) → look_at want c ≡ glance.Copied → are_present want.sub c ≡ true
+looked : (want : Want) (c : Region) → look_at want c ≡ glance.Copied → (nat_le want.sub.end (len_of c) ≡ true) × (are_present want.sub c ≡ true)
 looked want c e = elim (cases_Bool (c.tag == tag_of want.key)) [
   | inr f ↦ absurd (moved_copied (rw f at e))
   | inl t ↦ elim (cases_Bool (nat_le want.sub.end (len_of c) && are_present want.sub c)) [
-    | inl y ↦ (and_parts (nat_le want.sub.end (len_of c)) (are_present want.sub c) y).1
+    | inl y ↦ and_parts (nat_le want.sub.end (len_of c)) (are_present want.sub c) y
     | inr n ↦ absurd (absent_copied (rw (t, n) at e))
   ]
 ]
@@ -242,7 +161,10 @@ module _ {tells : Bool} {files : ℕ → ℕ → List ℕ} (s : State) (good : G
       grind (arith, nat_tests)
 
   run_none : claim_run s.config.range want.sub (cell_at s l.region).region ≡ None
-  run_none = claim_none s.config.range want.sub (cell_at s l.region).region good.config.range.0 is_want.sub.0 (looked want (cell_at s l.region).region copied)
+  run_none =
+      let seen = looked want (cell_at s l.region).region copied in
+      let short = seen.0 in
+      claim_none s.config.range want.sub (cell_at s l.region).region good.config.range.0 is_want.sub.0 (grind (arith, nat_tests)) is_want.sub.2 seen.1
 
   tickets_none : (cell_at s l.region).region.tracker.tickets ≡ []
   tickets_none =
