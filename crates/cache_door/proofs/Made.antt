@@ -1,5 +1,6 @@
 -- The first state of a core, over cells of which none has a key.
-use Rattle.std.proofs.Common.{arith, ◌≡◌, ◌<◌, ◌+◌, ℕ, zero, suc, Bool, true, false, List, [], ◌∷◌, ◌++◌, sym, subst, ◌∙◌, ap, refl, length, get_or, map, replicate, Option, Some, None}
+use Rattle.std.proofs.Common.{arith, ◌≡◌, ◌<◌, ◌+◌, ℕ, zero, suc, Bool, false, List, [], ◌∷◌, ◌++◌, sym, subst, ◌∙◌, ap, refl, length, get_or, map, replicate, Option, Some, None}
+use Rattle.std.specs.Cmp.{first_so, second_so}
 use Rattle.std.specs.Prelude.{◌&&◌, IsTrue, if◌then◌else◌}
 use Rattle.std.specs.List.{All, list_all}
 use Rattle.std.proofs.lemmas.Bool.{false≢true}
@@ -44,24 +45,10 @@ pub map_same : {Y : Type 0} (ys : List Y) → map (λ y. y) ys ≡ ys
 map_same [] = refl
 map_same (y ∷ ys) = ap (λ (l : List _). y ∷ l) (map_same ys)
 
-pub all_push : {Y : Type 0} (P : Y → Type 0) (ys : List Y) (y : Y) → All P ys → P y → All P (ys ++ y ∷ [])
-all_push P [] y h p zero d l = p
-all_push P [] y h p (suc k) d l = absurd (omega (arith, l))
-all_push P (z ∷ zs) y h p zero d l = h 0 d (omega arith)
-all_push P (z ∷ zs) y h p (suc k) d l = all_push P zs y (λ j e m. h (suc j) e (omega (arith, m))) p k d (omega (arith, l))
-
-left : (x y : Bool) → IsTrue (x && y) → IsTrue x
-left true y t = refl
-left false y t = absurd (false≢true t)
-
-right : (x y : Bool) → IsTrue (x && y) → IsTrue y
-right true y t = t
-right false y t = absurd (false≢true t)
-
 tell_at : (r : ℕ) (vs : List CellView) → r < length vs → IsTrue (all_tell vs) → IsTrue (view_at vs r).metadata.frame.tells
 tell_at r [] h t = absurd (omega (arith, h))
-tell_at zero (v ∷ vs) h t = left v.metadata.frame.tells (all_tell vs) t
-tell_at (suc r) (v ∷ vs) h t = tell_at r vs (omega (arith, h)) (right v.metadata.frame.tells (all_tell vs) t)
+tell_at zero (v ∷ vs) h t = first_so v.metadata.frame.tells (all_tell vs) t
+tell_at (suc r) (v ∷ vs) h t = tell_at r vs (omega (arith, h)) (second_so v.metadata.frame.tells (all_tell vs) t)
 
 module _ {X : Type 0} (view : X → FrameView) where
   abbrev faults : X → ℕ

@@ -3,6 +3,7 @@ use Rattle.std.proofs.Common.{arith, ◌≡◌, ◌<◌, ◌≤◌, ◌+◌, ℕ
 use Rattle.std.specs.Prelude.{◌==◌, IsSome}
 use Rattle.std.proofs.lemmas.Bool.{cases_Bool, cases_lt, eq-eqb, ne_eqb, eqb-true}
 use Rattle.std.proofs.lemmas.Bool.Decides.{nat_tests}
+use Rattle.std.proofs.Math.Seq.{drop-nil}
 use Rattle.freq_lists.specs.Lists.{without, head, times_in}
 use Rattle.cache_policy.specs.Policy.{PolicyView, tag_at, settle, settle_all}
 use Rattle.cache_policy.specs.Ageing.{candidates, next_after}
@@ -25,11 +26,7 @@ pub meet_unheld : (holds : List (Option Hold)) (i r : ℕ) (xs : List ℕ) → i
 meet_unheld holds i r xs h e f = rw (drop-cons xs i 0, ← e, f, add-one) refl
 
 pub drop_end : (i : ℕ) (xs : List ℕ) → length xs ≤ i → drop i xs ≡ []
-drop_end i [] h = drop_nil i
-  where
-    drop_nil : (k : ℕ) → drop {A = ℕ} k [] ≡ []
-    drop_nil zero = refl
-    drop_nil (suc k) = refl
+drop_end i [] h = drop-nil i
 drop_end zero (x ∷ xs) h = absurd (omega (arith, h))
 drop_end (suc i) (x ∷ xs) h = drop_end i xs (omega (arith, h))
 
@@ -83,10 +80,6 @@ left_some r (x ∷ xs) h = elim (cases_Bool (x == r)) [
 pub left_first : (xs : List ℕ) → left_from (head xs) xs ≡ xs
 left_first [] = refl
 left_first (x ∷ xs) = rw (eq-eqb x x refl) refl
-  where
-    head_times : (n : ℕ) (l : List ℕ) → head l ≡ Some n → 0 < times_in n l
-    head_times n [] e = absurd (cc)
-    head_times n (y ∷ ys) e = let i : y ≡ n = (cc) in rw (eq-eqb y n i) (omega arith)
 
 -- what is left from an entry of the rest is left from it in the whole
 left_behind : (x : ℕ) (o : Option ℕ) (xs : List ℕ) → ((n : ℕ) → o ≡ Some n → ¬ (x ≡ n)) → left_from o (x ∷ xs) ≡ left_from o xs

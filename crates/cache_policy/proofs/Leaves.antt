@@ -3,6 +3,7 @@ use Rattle.std.proofs.Common.{arith, ◌≡◌, ◌<◌, ℕ, zero, suc, List, [
 use Rattle.std.specs.Prelude.{◌==◌, not, slice_set}
 use Rattle.std.proofs.lemmas.List.Elements.{filter-append}
 use Rattle.std.proofs.lemmas.Bool.{eq-eqb}
+use Rattle.std.proofs.lemmas.List.{append-nil}
 use Rattle.freq_lists.specs.Lists.{times, times_in, push_back, unlink, without}
 use Rattle.freq_lists.proofs.Counts.{times_append}
 use Rattle.cache_policy.specs.Policy.{tag_at}
@@ -20,11 +21,7 @@ none_is (Some t) e = absurd (omega (arith, e))
 without_last : (r : ℕ) (l : List ℕ) → times_in r l ≡ 0 → without r (l ++ r ∷ []) ≡ l
 without_last r l none =
     let one = rw (eq-eqb r r refl) at (times_append r l (r ∷ [])) in
-    without_one r l [] (omega (arith, one, none)) ∙ append_nil l
-  where
-    append_nil : (xs : List ℕ) → xs ++ [] ≡ xs
-    append_nil [] = refl
-    append_nil (x ∷ xs) = ap (λ (ys : List ℕ). x ∷ ys) (append_nil xs)
+    without_one r l [] (omega (arith, one, none)) ∙ append-nil l
 
 unpushed : (r : ℕ) (ls : List (List ℕ)) → times r ls ≡ 0 → unlink r (push_back 0 r ls) ≡ ls
 unpushed r [] e = refl

@@ -3,6 +3,7 @@ use Rattle.std.proofs.Common.{arith, ◌≡◌, ◌<◌, ◌≤◌, ◌+◌, ℕ
 use Rattle.std.specs.Prelude.{not, ◌==◌, filter, slice_get}
 use Rattle.std.proofs.lemmas.Bool.{cases_eq, cases_Bool, eq-eqb, ne_eqb}
 use Rattle.std.proofs.lemmas.List.Elements.{filter-append}
+use Rattle.cache_policy.proofs.Candidates.{head_get}
 use Rattle.freq_lists.specs.Lists.{without, unlink, push_back, times, times_in, next, behind, is_in, head, list_at}
 use Rattle.cache_policy.specs.Steps.{lowering}
 use Rattle.freq_lists.proofs.Counts.{times_append}
@@ -137,8 +138,4 @@ none_at (x ∷ xs) zero e = cc
 none_at (x ∷ xs) (suc i) e = omega (arith, none_at xs i e)
 
 pub begun : (goes : ℕ → Bool) (k : ℕ) (ls : List (List ℕ)) → (lowering goes k 0 ls ≡ ls) × (head (list_at (suc k) ls) ≡ slice_get (list_at (suc k) ls) 0)
-begun goes k ls = (front_is goes k ls, head_is (list_at (suc k) ls))
-  where
-    head_is : (l : List ℕ) → head l ≡ slice_get l 0
-    head_is [] = refl
-    head_is (x ∷ xs) = refl
+begun goes k ls = (front_is goes k ls, head_get (list_at (suc k) ls))

@@ -46,7 +46,7 @@ changed : (f : ℕ → ByteState → ByteState) (ls : List ByteState) (i : ℕ) 
     → slice_get (change_from 0 f ls) i ≡ Some (f i l)
 changed f ls i l e = let z : 0 + i ≡ i = omega arith in slot_change f 0 ls i l e ∙ ap (λ (k : ℕ). Some (f k l)) z
 
-absent_present : Some absent ≡ Some present → ⊥
+pub absent_present : Some absent ≡ Some present → ⊥
 absent_present e = cc
 
 -- the gap of a claim, moved to `to`

@@ -1,9 +1,9 @@
 -- Parts of reads as acts on files, and files of which no two parts are one blob.
-use Rattle.std.proofs.Common.{arith, ◌≡◌, ◌<◌, ◌≤◌, ◌+◌, ◌-◌, ◌*◌, ◌/◌, ℕ, zero, suc, Bool, true, false, List, [], ◌∷◌, ◌++◌, sym, subst, ◌∙◌, ap, inl, inr, refl, length, map, Option, Some, None}
+use Rattle.std.proofs.Common.{arith, ◌≡◌, ◌<◌, ◌≤◌, ◌+◌, ◌-◌, ◌*◌, ◌/◌, ℕ, zero, suc, Bool, true, List, [], ◌∷◌, ◌++◌, sym, subst, ◌∙◌, ap, inl, inr, refl, length, map, Option, Some, None}
 use Rattle.std.specs.Prelude.{◌==◌, slice_get}
 use Rattle.std.specs.Int.{div_ceil}
 use Rattle.std.specs.List.{range_with_len, flat_map}
-use Rattle.std.proofs.lemmas.Bool.{cases_Bool, cases_lt, or_left, or_right, eq-eqb}
+use Rattle.std.proofs.lemmas.Bool.{cases_Bool, cases_lt, or_left, or_right, eq-eqb, false≢true}
 use Rattle.std.proofs.lemmas.Bool.Decides.{nat_tests}
 use Rattle.std.proofs.lemmas.Grind.{div_ceil_times}
 use Rattle.std.proofs.lemmas.List.{length-append}
@@ -51,13 +51,10 @@ in_range f k lo zero low high = absurd (omega (arith, low, high))
 in_range f k lo (suc n) low high = elim (cases_Bool (f lo == f k)) [
   | inl t ↦ rw t refl
   | inr t ↦
-      let other : lo ≡ k → ⊥ = λ e. false_true (sym t ∙ eq-eqb (f lo) (f k) (ap f e)) in
+      let other : lo ≡ k → ⊥ = λ e. false≢true (sym t ∙ eq-eqb (f lo) (f k) (ap f e)) in
       rw t (in_range f k (lo + 1) n (above lo k low other) (omega (arith, high)))
 ]
   where
-    false_true : false ≡ true → ⊥
-    false_true e = cc
-
     above : (a b : ℕ) → a ≤ b → (a ≡ b → ⊥) → a + 1 ≤ b
     above a b h n = elim (cases_lt a b) [
       | inl l ↦ omega (arith, l)

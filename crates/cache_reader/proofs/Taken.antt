@@ -21,7 +21,7 @@ use Rattle.cache_door.specs.Machine.{State, Cell, no_cell, cell_at, with_hold, w
 use Rattle.cache_door.specs.Takes.{Once, taken_by, after, spread_over}
 use Rattle.cache_reader.specs.Once.{AreApart}
 use Rattle.cache_reader.proofs.Fills.{slice_length}
-use Rattle.cache_reader.proofs.Filled.{Claimed, changed_at, one_cell, two_cells, through_len, through_filled, through_stays}
+use Rattle.cache_reader.proofs.Filled.{Claimed, absent_present, changed_at, one_cell, two_cells, through_len, through_filled, through_stays}
 use Rattle.cache_reader.proofs.Untaken.{idle, HasPresent, IsTaken, Untaken}
 
 -- ---- places of lists
@@ -295,9 +295,6 @@ module _ {blobs : Listing} {settings : Config} {keys : List ℕ} {Files : ℕ �
         mapped = mapped ∙ ap (λ j. Some (tag_of (record { manifest = m; file = f; region = j }))) (sym row);
         there = subst (λ j. HasPresent j (get_or ds r no_cell)) off i.present_is;
       }
-
-  absent_present : Some absent ≡ Some present → ⊥
-  absent_present e = cc
 
   -- no place of the gap was taken
   not_taken : (n : ℕ) (place : ℕ × ℕ) → slice_get new n ≡ Some place → IsTaken blobs settings Files p cs place → ⊥

@@ -2,7 +2,7 @@
 use Rattle.std.proofs.Common.{arith, ◌≡◌, ◌≢◌, ◌⊎◌, ◌<◌, ◌≤◌, ◌+◌, ℕ, zero, suc, true, false, List, [], ◌∷◌, ◌++◌, sym, subst, ◌∙◌, ap, refl, length, get_or, take, drop, Option, Some, None, inl, inr}
 use Rattle.std.specs.Prelude.{◌==◌, ◌&&◌, not, if◌then◌else◌, slice_set, slice_get}
 use Rattle.std.proofs.lemmas.Bool.{cases_Bool, cases_eq, cases_lt, eq-eqb, ne_eqb}
-use Rattle.std.proofs.lemmas.List.{append_assoc}
+use Rattle.std.proofs.lemmas.List.{append_assoc, append-nil}
 use Rattle.region_ranges.specs.Keys.{tag_of as key_tag}
 use Rattle.region_ranges.specs.declared.ranges.ByteRange.{ByteRange}
 use Rattle.freq_lists.specs.Lists.{times_in, head, without}
@@ -46,12 +46,8 @@ passed_more law p q o n r tag now good over e is =
     let base : record q { free = drop 1 q.free; last_accesses = slice_set q.last_accesses r now; leaving = q.leaving ++ r ∷ [] } ≡ record p { free = drop 1 q.free; last_accesses = slice_set q.last_accesses r now; leaving = q.leaving ++ r ∷ [] } = ap (λ (y : PolicyView). record y { free = drop 1 q.free; last_accesses = slice_set q.last_accesses r now; leaving = q.leaving ++ r ∷ [] }) over in
     z ∙ base ∙ (λ i. record p { free = f i; last_accesses = (sym s) i; leaving = l i })
 
-append_nil : (l : List ℕ) → l ++ [] ≡ l
-append_nil [] = refl
-append_nil (x ∷ l) = ap (λ (m : List ℕ). x ∷ m) (append_nil l)
-
 pub passed_none : (p : PolicyView) → PassedOver 0 p p
-passed_none p = λ i. record p { leaving = sym (append_nil p.leaving) i }
+passed_none p = λ i. record p { leaving = sym (append-nil p.leaving) i }
 
 -- ---- what is found held
 

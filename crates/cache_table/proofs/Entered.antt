@@ -1,6 +1,7 @@
 -- What an entry tells, from what its parts tell.
 use Rattle.std.proofs.Common.{arith, ◌≡◌, ◌⊎◌, ◌<◌, ◌+◌, ◌*◌, ◌%◌, ◌∙◌, ℕ, Bool, true, false, List, sym, subst, ap, refl, Option, Some, None, Result, Ok, Err, inl, inr}
 use Rattle.std.specs.Prelude.{IfOk, IfSome, IfNone, IsTrue, ◌↔◌}
+use Rattle.std.proofs.lemmas.Bool.{false≢true}
 use Rattle.region_ranges.specs.Keys.{tag_of as key_tag}
 use Rattle.cache_policy.specs.Policy.{PolicyView, tag_at}
 use Rattle.cache_policy.specs.Ageing.{touch}
@@ -56,10 +57,7 @@ left_as want p p2 q q2 v w a b n (o, from, (m, over)) = (
 -- ---- the mount
 
 pub not_gone : (b : Bool) (w : ℕ) → b ≡ false → (IsTrue b ↔ (w ≡ 2)) → w ≡ 2 → ⊥
-not_gone b w f i e = false_true (sym f ∙ i.1 e)
-  where
-    false_true : false ≡ true → ⊥
-    false_true z = cc
+not_gone b w f i e = false≢true (sym f ∙ i.1 e)
 
 pub room_or_gone : NoRoom ≡ Gone → ⊥
 room_or_gone e = cc

@@ -4,6 +4,7 @@ use Rattle.std.specs.Prelude.{All, IsTrue, slice_index_or}
 use Rattle.std.specs.List.{list_all}
 use Rattle.std.proofs.lemmas.Bool.{cases_Bool, cases_lt}
 use Rattle.std.proofs.lemmas.List.{length-replicate, length-append, get_or_append_left, get_or-append-add}
+use Rattle.std.proofs.lemmas.List.Elements.{All-push}
 use mathlib.Core.Option.{some, some-injective, some-ne-none}
 use lib.ListN.{get_elem?}
 use Rattle.atomic_table.specs.Table.{opening}
@@ -86,12 +87,6 @@ zeros zero k = refl
 zeros (suc m) zero = refl
 zeros (suc m) (suc k) = zeros m k
 
-all_more : {X : Type 0} (P : X → Type 0) (xs : List X) (y : X) → All P xs → P y → All P (xs ++ y ∷ [])
-all_more P [] y h s zero d l = s
-all_more P [] y h s (suc k) d l = absurd (omega arith)
-all_more P (x ∷ xs) y h s zero d l = h 0 d (omega arith)
-all_more P (x ∷ xs) y h s (suc k) d l = all_more P xs y (λ j e m. h (suc j) e (omega arith)) s k d (omega arith)
-
 get_left : {X : Type 0} (xs ys : List X) (i : ℕ) (x : X) → get_elem? xs i ≡ some x → get_elem? (xs ++ ys) i ≡ some x
 get_left [] ys i x h = absurd (some-ne-none x (sym h))
 get_left (z ∷ zs) ys zero x h = h
@@ -108,7 +103,7 @@ module _ {A F : Type 0} where
 
   aways_each : (P : Home A F → Type 0) → P Away → (n : ℕ) (ys : List (Home A F)) → All P ys → All P (aways n ys)
   aways_each P p zero ys h = h
-  aways_each P p (suc n) ys h = all_more P (aways n ys) Away (aways_each P p n ys h) p
+  aways_each P p (suc n) ys h = All-push P (aways n ys) Away (aways_each P p n ys h) p
 
   aways_get : (n : ℕ) (ys : List (Home A F)) (i : ℕ) (y : Home A F) → get_elem? ys i ≡ some y → get_elem? (aways n ys) i ≡ some y
   aways_get zero ys i y h = h
@@ -128,7 +123,7 @@ module _ (told : Bool) (files : ℕ → ℕ → List ℕ) (A F : Type 0) where
   spaced_more : (a : About) (n m : ℕ) (ys : List (Home A F)) (c : CellView) → m ≡ n + 1 → AreSpaced told files a n ys → Suits told files a 18446744073709551360 c → (c.metadata.region.tracker.tickets ≡ []) × (c.metadata.region.tracker.gaps ≡ []) → AreSpaced told files a m (aways 7 ys ++ Cell c ∷ [])
   spaced_more a n m ys c e h s t = let front : List (Home A F) = aways 7 ys in let l : length front ≡ length ys + 7 = aways_length 7 ys in record {
     count = omega (arith, e, h.count, length-append front (Cell c ∷ []), l);
-    each = all_more (IsSpace told files a) front (Cell c) (aways_each (IsSpace told files a) tt 7 ys h.each) (is_space a c s t);
+    each = All-push (IsSpace told files a) front (Cell c) (aways_each (IsSpace told files a) tt 7 ys h.each) (is_space a c s t);
     cells = λ r less. elim (cases_lt r n) [
       | inl low ↦ let z = h.cells r low in (z.0, get_left front (Cell c ∷ []) (8 * r + 7) z.0 (aways_get 7 ys (8 * r + 7) z.0 z.1), z.2)
       | inr high ↦ let p : 8 * r + 7 ≡ length front = omega (arith, e, h.count, l, less, high) in (Cell c, ap (get_elem? (front ++ Cell c ∷ [])) p ∙ get_last front (Cell c), (s, t.0, t.1))

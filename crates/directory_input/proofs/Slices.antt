@@ -1,18 +1,15 @@
 -- A slice of a slice.
 use Rattle.std.proofs.Common.{◌≡◌, ℕ, zero, suc, ◌≤◌, ◌+◌, ◌-◌, ◌∙◌, ap, arith, sym, refl, List, [], ◌∷◌, take, drop}
 use Rattle.std.proofs.lemmas.List.{drop-take}
+use Rattle.std.proofs.Math.Seq.{drop-nil}
 use Rattle.directory_input.specs.Reads.{slice_of}
-
-drop_nil : (n : ℕ) → drop {A = ℕ} n [] ≡ []
-drop_nil zero = refl
-drop_nil (suc n) = refl
 
 pub zero_add : (b : ℕ) → 0 + b ≡ b
 zero_add b = omega arith
 
 pub drop_drop : (a b : ℕ) (xs : List ℕ) → drop b (drop a xs) ≡ drop (a + b) xs
 drop_drop zero b xs = rw (zero_add b) refl
-drop_drop (suc a) b [] = rw (drop_nil b) (sym (drop_nil (suc a + b)))
+drop_drop (suc a) b [] = rw (drop-nil b) (sym (drop-nil (suc a + b)))
 drop_drop (suc a) b (x ∷ xs) = let e : suc a + b ≡ suc (a + b) = omega arith in rw e (drop_drop a b xs)
 
 pub take_take : (n m : ℕ) (xs : List ℕ) → n ≤ m → take n (take m xs) ≡ take n xs

@@ -1,5 +1,6 @@
 -- Bits of words, and sets that lie in words.
-use Rattle.std.proofs.Common.{◌≡◌, ℕ, zero, suc, ◌*◌, ◌/◌, ◌%◌, ◌^◌, ◌<◌, ◌≤◌, ◌≢◌, Bool, true, false, cond, eqb, List, length, get_or, sym, refl, ◌∙◌, inl, inr, arith, w64, bit_or, eq-eqb}
+use Rattle.std.proofs.Common.{◌≡◌, ℕ, zero, suc, ◌*◌, ◌/◌, ◌%◌, ◌^◌, ◌<◌, ◌≤◌, ◌≢◌, Bool, true, false, cond, eqb, List, length, get_or, map, sym, refl, ap, ◌∙◌, inl, inr, arith, w64, bit_or, eq-eqb}
+use Rattle.std.proofs.Math.Path.{fun_ext}
 use Rattle.std.specs.Int.{bit_at}
 use Rattle.std.specs.List.{range_with_len}
 use Rattle.std.proofs.lemmas.Bool.{cases_lt}
@@ -7,7 +8,7 @@ use Rattle.std.proofs.lemmas.List.{get_or_past}
 use Rattle.std.proofs.lemmas.Nat.Bits.{bit_at-zero, bit_at-lt, bit_at_set_same, bit_at_set_other}
 use Rattle.doc_bits.specs.Places.{zip_with}
 use Rattle.doc_bits.specs.Words.{has_bit, holds_at, list_of, IsLaidOut}
-use Rattle.doc_bits.proofs.Lists.{zip_with-map, map-range_same}
+use Rattle.doc_bits.proofs.Lists.{zip_with-map}
 
 pub has_bit-zero : (i : ℕ) → has_bit 0 i ≡ false
 unfolding has_bit
@@ -66,7 +67,7 @@ pub list_of_combined : (test : Bool → Bool → Bool) (len other_len : ℕ) (ol
 unfolding list_of
 list_of_combined test len other_len old other new same_len each =
     rw same_len
-    (map-range_same (holds_at new) (λ i. test (holds_at old i) (holds_at other i)) 0 len (λ i low high. each i)
+    (ap (λ (f : ℕ → Bool). map f (range_with_len 0 len)) (fun_ext each)
     ∙ sym (zip_with-map test (holds_at old) (holds_at other) (range_with_len 0 len)))
 
 pub laid_out_combined : (test : Bool → Bool → Bool) → test false false ≡ false → (len other_len : ℕ) (old other new : List ℕ)

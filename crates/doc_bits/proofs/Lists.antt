@@ -8,13 +8,6 @@ pub zip_with-map : {V A B C : Type 0} (f : A → B → C) (g : V → A) (h : V �
 zip_with-map f g h [] = refl
 zip_with-map f g h (x ∷ xs) = ap (λ t. f (g x) (h x) ∷ t) (zip_with-map f g h xs)
 
--- two functions that agree on a run of numbers
-pub map-range_same : {X : Type 0} (f g : ℕ → X) (a n : ℕ) → ((i : ℕ) → a ≤ i → i < a + n → f i ≡ g i)
-    → map f (range_with_len a n) ≡ map g (range_with_len a n)
-map-range_same f g a zero same = refl
-map-range_same f g a (suc n) same =
-    ap₂ ◌∷◌ (same a (omega arith) (omega arith)) (map-range_same f g (a + 1) n (λ i low high. same i (omega arith) (omega arith)))
-
 pub filter-range_same : (p q : ℕ → Bool) (a n : ℕ) → ((i : ℕ) → a ≤ i → i < a + n → p i ≡ q i)
     → filter p (range_with_len a n) ≡ filter q (range_with_len a n)
 filter-range_same p q a zero same = refl

@@ -4,6 +4,7 @@ use Rattle.std.specs.Prelude.{cond, not, ◌==◌}
 use Rattle.std.specs.List.{position_from}
 use Rattle.std.proofs.lemmas.Bool.{cases_eq, cases_Bool, eq-eqb, ne_eqb}
 use Rattle.std.proofs.lemmas.List.Elements.{filter-append}
+use Rattle.std.proofs.lemmas.List.{append-nil}
 use Rattle.freq_lists.specs.Lists.{without, unlink, push_back, times, times_in, next, behind, is_in, list_at}
 
 pub times_append : (n : ℕ) (xs ys : List ℕ) → times_in n (xs ++ ys) ≡ times_in n xs + times_in n ys
@@ -34,11 +35,7 @@ unlink_empty n (suc c) = ap (λ (ls : List (List ℕ)). [] ∷ ls) (unlink_empty
 
 pub unlink_same : (n k m : ℕ) (ls : List (List ℕ)) → (m == n) ≡ true → unlink n (push_back k m ls) ≡ unlink n ls
 unlink_same n k m [] e = refl
-unlink_same n zero m (l ∷ ls) e = rw (filter-append (λ j. not (j == n)) l (m ∷ []), e, append-end (without n l)) refl
-  where
-    append-end : (xs : List ℕ) → xs ++ [] ≡ xs
-    append-end [] = refl
-    append-end (x ∷ xs) = ap (λ (ys : List ℕ). x ∷ ys) (append-end xs)
+unlink_same n zero m (l ∷ ls) e = rw (filter-append (λ j. not (j == n)) l (m ∷ []), e, append-nil (without n l)) refl
 unlink_same n (suc k) m (l ∷ ls) e = ap (λ (xs : List (List ℕ)). without n l ∷ xs) (unlink_same n k m ls e)
 
 pub unlink_other : (n k m : ℕ) (ls : List (List ℕ)) → (m == n) ≡ false → unlink n (push_back k m ls) ≡ push_back k m (unlink n ls)

@@ -1,8 +1,7 @@
 -- What all passes together have shown of a manifest.
-use Rattle.std.proofs.Common.{◌≡◌, ℕ, ◌≤◌, ◌*◌, List, [], length, true, Ok, Some, sym, ◌∙◌, arith}
+use Rattle.std.proofs.Common.{◌≡◌, ℕ, ◌≤◌, ◌*◌, List, [], length, Ok, Some, sym, ◌∙◌, arith}
 use Rattle.std.specs.Prelude.{slice_get, sum_by, get_or, ⊤}
-use Rattle.std.specs.Str.{bytes_eq}
-use Rattle.std.proofs.lemmas.Cmp.{nat_list_eq_equiv}
+use Rattle.std.proofs.lemmas.Slice.Eq.{bytes_eq-Decides}
 use Rattle.std.proofs.lemmas.List.Sums.{sum_by-le}
 use Rattle.std.proofs.lemmas.Option.{slice_get-get_or}
 use Rattle.std.proofs.lemmas.Nat.{mul-le}
@@ -17,9 +16,6 @@ use Rattle.mount_manifest.proofs.Steps.{came_from, length_kept}
 use Rattle.mount_manifest.proofs.Sound.{files_within, short_name}
 use Rattle.mount_manifest.proofs.Doubles.{differ}
 use Rattle.mount_manifest.proofs.Placed.{placed_below}
-
-equal_bytes : (xs ys : List ℕ) → xs ≡ ys → bytes_eq xs ys ≡ true
-equal_bytes xs ys e = rw (sym e) (nat_list_eq_equiv.refl xs)
 
 segment_differ : (files : List FileRecord) (named : List NamedSegment) (segments : List Segment) → each (placed files) named ≡ Ok segments
     → DiffersBy segment_name_of named → DiffersBy (λ s. s.name) segments
@@ -43,10 +39,10 @@ sound files named segments parts u v good few_files limits few_named docs file_n
       few_parts = let a = within.0 in let b = within.1 in omega arith;
       file = λ i f at. record { named = good i f at; name = short_name f (good i f at); short = (within.2 i f at).0; cut = (within.2 i f at).1 };
       segment = λ i t at. one_segment i t at;
-      physical_names = differ same_file physical_name_of physical_name_of files u file_names (λ x y e. or_left _ _ (equal_bytes _ _ e));
-      names = differ same_file physical_name_of (λ f. f.name) files u file_names (λ x y e. or_right _ _ (equal_bytes _ _ e));
+      physical_names = differ same_file physical_name_of physical_name_of files u file_names (λ x y e. or_left _ _ ((bytes_eq-Decides _ _).1 e));
+      names = differ same_file physical_name_of (λ f. f.name) files u file_names (λ x y e. or_right _ _ ((bytes_eq-Decides _ _).1 e));
       segment_names = segment_differ files named segments places
-          (differ same_segment segment_name_of segment_name_of named v segment_names (λ x y e. equal_bytes _ _ e));
+          (differ same_segment segment_name_of segment_name_of named v segment_names (λ x y e. (bytes_eq-Decides _ _).1 e));
     }
   where
     one_segment : (i : ℕ) (t : Segment) → slice_get segments i ≡ Some t → IsSegment (length files) t

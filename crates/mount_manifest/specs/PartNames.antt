@@ -1,10 +1,10 @@
 -- No two parts of files with names of data have one name.
-use Rattle.std.proofs.Common.{◌≡◌, ◌⊎◌, ℕ, zero, suc, ◌+◌, ◌<◌, ◌≤◌, ◌^◌, List, [], ◌∷◌, ◌++◌, length, Bool, true, false, refl, ap, sym, subst, ◌∙◌, arith, ◌||◌, ◌%◌, inl, inr}
+use Rattle.std.proofs.Common.{◌≡◌, ◌⊎◌, ℕ, zero, suc, ◌+◌, ◌<◌, ◌≤◌, ◌^◌, List, [], ◌∷◌, ◌++◌, length, Bool, true, false, refl, ap, sym, subst, ◌∙◌, arith, ◌%◌, inl, inr}
 use Rattle.std.specs.Prelude.{codes, nat_lt, not, ◌==◌, slice_get, sum_by, get_or, drop, Some}
 use Rattle.std.specs.Char.{is_ascii_digit}
 use Rattle.std.specs.Fmt.{decimal}
 use Rattle.std.specs.List.{list_all, list_any}
-use Rattle.std.proofs.lemmas.Bool.{and_parts, and_from, false≢true, cases_Bool}
+use Rattle.std.proofs.lemmas.Bool.{and_parts, and_from, false≢true, cases_Bool, or_right}
 use Rattle.std.proofs.lemmas.Bool.Decides.{nat_tests}
 use Rattle.std.proofs.lemmas.Fmt.{decimal_by_steps, decimal_injective, decimal_nonempty}
 use Rattle.std.proofs.lemmas.List.{append_cancel_left}
@@ -39,11 +39,7 @@ is_an_ending k h =
 
 ends_behind : (passes : List ℕ → Bool) (xs : List ℕ) (b : ℕ) (bs : List ℕ) → passes (b ∷ bs) ≡ true → ends_with passes (xs ++ b ∷ bs) ≡ true
 ends_behind passes [] b bs h = rw h refl
-ends_behind passes (x ∷ xs) b bs h = or_behind (passes (x ∷ xs ++ b ∷ bs)) (ends_behind passes xs b bs h)
-  where
-    or_behind : (p : Bool) {q : Bool} → q ≡ true → (p || q) ≡ true
-    or_behind true e = refl
-    or_behind false e = e
+ends_behind passes (x ∷ xs) b bs h = or_right (passes (x ∷ xs ++ b ∷ bs)) _ (ends_behind passes xs b bs h)
 
 -- a name of data does not end so
 not_ending : (name front : List ℕ) (k : ℕ) → is_file_name name ≡ true → k < 2 ^ 64 → name ≡ front ++ ending k → ⊥
@@ -71,11 +67,7 @@ none_in (b ∷ bs) h = let parts = and_parts (is_ascii_digit b) (list_all is_asc
 dot_behind : (xs bs : List ℕ) → has_dot (xs ++ 46 ∷ bs) ≡ true
 unfolding is_dot
 dot_behind [] bs = refl
-dot_behind (x ∷ xs) bs = or_behind (is_dot x) (dot_behind xs bs)
-  where
-    or_behind : (p : Bool) {q : Bool} → q ≡ true → (p || q) ≡ true
-    or_behind true e = refl
-    or_behind false e = e
+dot_behind (x ∷ xs) bs = or_right (is_dot x) _ (dot_behind xs bs)
 
 one_dot : (ds : List ℕ) → has_dot ds ≡ false → has_dot (codes "part" ++ ds) ≡ false
 unfolding is_dot

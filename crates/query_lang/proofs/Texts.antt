@@ -1,5 +1,6 @@
 -- Queries whose fields and values are UTF-8.
 use Rattle.std.proofs.Common.{ℕ, List, [], ◌∷◌, ◌++◌, Bool, true, false, refl}
+use Rattle.std.specs.Cmp.{first_so, second_so}
 use Rattle.std.specs.Prelude.{map, IsTrue, IsUtf8, ◌&&◌}
 use Rattle.std.proofs.lemmas.Bool.{false≢true}
 use Rattle.std.proofs.lemmas.Str.{is_utf8-from_IsUtf8}
@@ -10,18 +11,10 @@ pub both_true : (a b : Bool) → IsTrue a → IsTrue b → IsTrue (a && b)
 both_true true b h g = g
 both_true false b h g = absurd (false≢true h)
 
-pub first_true : (a b : Bool) → IsTrue (a && b) → IsTrue a
-first_true true b h = refl
-first_true false b h = absurd (false≢true h)
-
-pub second_true : (a b : Bool) → IsTrue (a && b) → IsTrue b
-second_true true b h = h
-second_true false b h = absurd (false≢true h)
-
 pub term_is_text : (field value : List ℕ) → IsUtf8 field → IsUtf8 value → IsTrue (is_text (term field value))
 term_is_text field value f v = rw (is_utf8-from_IsUtf8 field f, is_utf8-from_IsUtf8 value v)
 
 pub one_more_text : (all : List Query) (q : Query) → IsTrue (are_text (trees_of (map tree_of all))) → IsTrue (is_text (tree_of q)) → IsTrue (are_text (trees_of (map tree_of (all ++ q ∷ []))))
 one_more_text [] q h g = both_true (is_text (tree_of q)) true g refl
 one_more_text (p ∷ all) q h g =
-    both_true (is_text (tree_of p)) _ (first_true (is_text (tree_of p)) _ h) (one_more_text all q (second_true (is_text (tree_of p)) _ h) g)
+    both_true (is_text (tree_of p)) _ (first_so (is_text (tree_of p)) _ h) (one_more_text all q (second_so (is_text (tree_of p)) _ h) g)

@@ -7,7 +7,7 @@ use Rattle.std.proofs.lemmas.Bool.{cases_lt}
 use Rattle.std.proofs.lemmas.Bool.Decides.{nat_tests}
 use Rattle.region_ranges.specs.declared.ranges.ByteRange.{ByteRange}
 use Rattle.region_ranges.specs.Ranges.{inside, has, IsSortedFrom}
-use Rattle.std.proofs.Math.Bool.{and-true, and-false}
+use Rattle.std.proofs.Math.Bool.{and-true, and-false, or_assoc}
 use Rattle.region_ranges.proofs.Points.{starts_from, sorted_from}
 use Rattle.region_ranges.proofs.Walks.{above_is, below_is, has_below}
 
@@ -16,10 +16,6 @@ or_swap true true c = refl
 or_swap true false c = refl
 or_swap false true c = refl
 or_swap false false c = refl
-
-pub or_assoc : (a b c : Bool) → ((a || b) || c) ≡ (a || (b || c))
-or_assoc true b c = refl
-or_assoc false b c = refl
 
 -- a partition of a list, seen from its second element
 pub later_before : {X : Type 0} (P : X → Type 0) (x : X) (xs : List X) (n : ℕ) → AllWithin P (x ∷ xs) 0 (suc n) → AllWithin P xs 0 n

@@ -221,12 +221,12 @@ in_front n xs ys h = (h.0, append_left xs ys h.0 n h.1)
 in_back : (n : ℕ) (xs ys : List ℕ) → IsOneOf ys n → IsOneOf (xs ++ ys) n
 in_back n xs ys h = (length xs + h.0, append_right xs ys h.0 n h.1)
 
+both_same : (blobs : Listing) {ls ks : List Line} {gs fs : List Reply} → ls ≡ ks → gs ≡ fs → mounted_in_block blobs ls gs ≡ mounted_in_block blobs ks fs
+both_same blobs a b = cc
+
 one_mounted : (e : Cached) (r q : RosterView) (block : List Line) (replies : List Reply) (x y : Point) (h : MountWent e r q block replies x y)
     → mounted_in_block e.blobs block replies ≡ mounted_by e.blobs (Mount h.name h.manifest) h.given
-one_mounted e r q block replies x y h = both_same h.line h.reply_is ∙ append-nil (mounted_by e.blobs (Mount h.name h.manifest) h.given)
-  where
-    both_same : {ls ks : List Line} {gs fs : List Reply} → ls ≡ ks → gs ≡ fs → mounted_in_block e.blobs ls gs ≡ mounted_in_block e.blobs ks fs
-    both_same a b = cc
+one_mounted e r q block replies x y h = both_same e.blobs h.line h.reply_is ∙ append-nil (mounted_by e.blobs (Mount h.name h.manifest) h.given)
 
 module _ (e : Cached) (laws : OnceLaws e.blobs) (ms : List ℕ) (limits : IsConfig e.config) (told : IsTrue e.tells) where
   rest_by : (x y : Point) → state_of y.core ≡ state_of x.core → ByActs e.blobs e.config (manifests_files e.blobs ms) [] (state_of x.core) (state_of y.core)
@@ -333,10 +333,7 @@ no_such n ms e h = empty h.0 (subst (λ (ks : List ℕ). slice_get ks h.0 ≡ So
     empty i there = absurd (cc)
 
 stats_mounted : (e : Cached) (r q : RosterView) (block : List Line) (replies : List Reply) (x y : Point) → StatsWent r q block replies x y → mounted_in_block e.blobs block replies ≡ []
-stats_mounted e r q block replies x y h = both_same h.line h.reply_is
-  where
-    both_same : {ls ks : List Line} {gs fs : List Reply} → ls ≡ ks → gs ≡ fs → mounted_in_block e.blobs ls gs ≡ mounted_in_block e.blobs ks fs
-    both_same a b = cc
+stats_mounted e r q block replies x y h = both_same e.blobs h.line h.reply_is
 
 block_whole : AreSound → (e : Cached) (now : ℕ) (r q : RosterView) (block : List Line) (replies : List Reply) (x y : Point) → IsTrue e.tells → BlockWent e now r q block replies x y
     → (n : ℕ) → IsOneOf (mounted_in_block e.blobs block replies) n → WholeAt e n

@@ -1,5 +1,6 @@
 -- The lines of a block, one after another.
 use Rattle.std.proofs.Common.{◌≡◌, ◌∙◌, ◌<◌, ◌≤◌, ◌+◌, ℕ, zero, suc, Bool, true, false, cond, List, [], ◌∷◌, ◌++◌, length, take, get_or, sym, subst, ap, ap₂, refl, inl, inr, arith, add-one, add-zero}
+use Rattle.std.specs.Cmp.{first_so}
 use Rattle.std.specs.Prelude.{IsTrue, Option, Some, None, option_map, ◌||◌, ◌&&◌, ◌⊎◌, ◌==◌, if◌then◌else◌}
 use Rattle.std.specs.Str.{bytes_eq}
 use Rattle.std.proofs.Math.Nat.{mod-one, le_refl, le_trans}
@@ -7,6 +8,7 @@ use Rattle.std.proofs.Math.Path.{fun_ext}
 use Rattle.std.proofs.lemmas.List.{append_assoc, append-nil}
 use Rattle.std.proofs.lemmas.List.Folds.{list_any-append}
 use Rattle.std.proofs.lemmas.Bool.Decides.{Decides-eqb}
+use Rattle.std.proofs.Math.Bool.{or-false, or-true}
 use Rattle.byte_text.specs.Counts.{Rose}
 use Rattle.cache_outside.specs.Listing.{Listing, manifest_number}
 use Rattle.cache_outside.specs.Sources.{SourceView}
@@ -41,11 +43,7 @@ forgets_more : (i : ℕ) (ls : List Line) (xs : List Reply) (l : Line) (x : Repl
     → forgets_any (take (i + 1) ls) (take (i + 1) xs) other ≡ (forgets_any (take i ls) (take i xs) other || forgets l.command x other)
 forgets_more zero [] xs l x other e f h k = absurd (omega (arith, h))
 forgets_more zero (m ∷ ls) [] l x other e f h k = absurd (omega (arith, k))
-forgets_more zero (m ∷ ls) (y ∷ xs) l x other e f h k = only (forgets m.command y other) ∙ sym (ap₂ (λ (n : Line) (z : Reply). forgets n.command z other) e f)
-  where
-    only : (b : Bool) → (b || false) ≡ b
-    only true = refl
-    only false = refl
+forgets_more zero (m ∷ ls) (y ∷ xs) l x other e f h k = or-false (forgets m.command y other) ∙ sym (ap₂ (λ (n : Line) (z : Reply). forgets n.command z other) e f)
 forgets_more (suc i) [] xs l x other e f h k = absurd (omega (arith, h))
 forgets_more (suc i) (m ∷ ls) [] l x other e f h k = absurd (omega (arith, k))
 forgets_more (suc i) (m ∷ ls) (y ∷ xs) l x other e f h k =
@@ -79,7 +77,7 @@ one_more_fault : (k : ℕ) (xs : List Reply) (x : Reply) → faults_of 1 0 k (xs
 one_more_fault k [] x = rw (mod-one k) (omega arith)
 one_more_fault k (y ∷ xs) x = rw (mod-one k, one_more_fault (k + 1) xs x) (omega arith)
 
-bears_one : (n before mid now : ℕ) → Bears n before mid → Rose mid now → Bears (n + 1) before now
+pub bears_one : (n before mid now : ℕ) → Bears n before mid → Rose mid now → Bears (n + 1) before now
 bears_one n before mid now b r = omega (arith, b, r)
 
 pub bears_on : (n before mid now : ℕ) → Bears n before mid → mid ≤ now → Bears n before now
@@ -185,21 +183,13 @@ gone_by r e now (Unmount name) (Some m) x report y z n shared is does gone = by_
 module _ (tells : Bool) (blobs : Listing) (r : RosterView) (kept : IsRoster tells blobs r) (done : List Line) (l : Line) (v w : CoreView) (before : UnmountedIn r done v)
     (by : (n : ℕ) → is_gone (state_of w) n ≡ true → (is_gone (state_of v) n ≡ true) ⊎ Unmounts r l.command n) where
   more_names : unmounted_in (done ++ l ∷ []) ≡ (λ name. unmounted_in done name || is_unmount_of name l.command)
-  more_names = fun_ext (λ name. list_any-append (λ (k : Line). is_unmount_of name k.command) done (l ∷ []) ∙ ap (λ (b : Bool). unmounted_in done name || b) (only (is_unmount_of name l.command)))
-    where
-      only : (b : Bool) → (b || false) ≡ b
-      only true = refl
-      only false = refl
+  more_names = fun_ext (λ name. list_any-append (λ (k : Line). is_unmount_of name k.command) done (l ∷ []) ∙ ap (λ (b : Bool). unmounted_in done name || b) (or-false (is_unmount_of name l.command)))
 
   found_before : (name : List ℕ) → unmounted_in done name ≡ true → unmounted_in (done ++ l ∷ []) name ≡ true
   found_before name h = ap (λ (f : List ℕ → Bool). f name) more_names ∙ ap (λ (b : Bool). b || is_unmount_of name l.command) h
 
   found_here : (name : List ℕ) → is_unmount_of name l.command ≡ true → unmounted_in (done ++ l ∷ []) name ≡ true
-  found_here name h = ap (λ (f : List ℕ → Bool). f name) more_names ∙ ap (λ (b : Bool). unmounted_in done name || b) h ∙ or_true (unmounted_in done name)
-    where
-      or_true : (b : Bool) → (b || true) ≡ true
-      or_true true = refl
-      or_true false = refl
+  found_here name h = ap (λ (f : List ℕ → Bool). f name) more_names ∙ ap (λ (b : Bool). unmounted_in done name || b) h ∙ or-true (unmounted_in done name)
 
   named_gone : (name : List ℕ) (m : MountView) → mounted name r ≡ Some m → (is_gone (state_of v) m.mount ≡ true) ⊎ Unmounts r l.command m.mount → unmounted_in (done ++ l ∷ []) name ≡ true
   named_gone name m is (inl gone) = found_before name (before.names name m is gone)
@@ -432,11 +422,7 @@ forgot r name m (l ∷ ls) (x ∷ xs) h is there = by_line (λ more. forgot r na
     by_line rest true e k = ap (λ (b : Bool). b || forgets_any ls xs name) (here l.command e h.0)
     by_line rest false e k =
         let later : unmounted_in ls name ≡ true = ap (λ (b : Bool). b || unmounted_in ls name) (sym e) ∙ k in
-        ap (λ (b : Bool). forgets l.command x name || b) (rest later) ∙ or_true (forgets l.command x name)
-      where
-        or_true : (b : Bool) → (b || true) ≡ true
-        or_true true = refl
-        or_true false = refl
+        ap (λ (b : Bool). forgets l.command x name || b) (rest later) ∙ or-true (forgets l.command x name)
 
 pub shared_ran : (s : RunSetting) (r q : RosterView) (block : List Line) (xs : List Reply) (a b : SourceView) (v w : CoreView) → AllShared block → LinesRan s r block block xs a b v w → Forgotten block xs r q
     → BlockRan s r q block xs a b v w
@@ -482,14 +468,10 @@ block_single [] l h e k = absurd h
 block_single (m ∷ ls) l (inl h) e k = let f : is_shared l.command ≡ true = ap (λ (n : Line). is_shared n.command) e ∙ h.0 in absurd (cc)
 block_single (m ∷ ls) l (inr h) e k = ap₂ (λ (n : Line) (ns : List Line). n ∷ ns) (sym e) h.1
 
-pub both_told : (a b : Bool) → IsTrue (a && b) → IsTrue a
-both_told true b h = refl
-both_told false b h = absurd (cc)
-
 pub mount_allowed : (tells frames : Bool) (blobs : Listing) (regions : ℕ) (m : Mounts) (name manifest : List ℕ) (x : Reply) → MountKind x → IsAnswer tells (mount_reply blobs m name manifest) x
     → Allowed (alone (tells && frames) blobs regions) m [] (Mount name manifest) x
-mount_allowed tells frames blobs regions m name manifest (reply.Mounted files docs) k h = λ t. h (both_told tells frames t)
-mount_allowed tells frames blobs regions m name manifest (reply.Refused text) k h = λ t. h (both_told tells frames t)
+mount_allowed tells frames blobs regions m name manifest (reply.Mounted files docs) k h = λ t. h (first_so tells frames t)
+mount_allowed tells frames blobs regions m name manifest (reply.Refused text) k h = λ t. h (first_so tells frames t)
 mount_allowed tells frames blobs regions m name manifest reply.Fault k h = refl
 mount_allowed tells frames blobs regions m name manifest reply.NoMemory k h = tt {0}
 mount_allowed tells frames blobs regions m name manifest x k h = absurd k
@@ -584,7 +566,7 @@ mount_one : (tells frames : Bool) (blobs : Listing) (regions number : ℕ) (name
     → BlockRan (alone (tells && frames) blobs regions) r q (record { number = number; command = Mount name manifest } ∷ []) (x ∷ []) a b v w
 mount_one tells frames blobs regions number name manifest r q x a b v w idle unmounted answer kind goes later source does = record {
   allowed = (mount_allowed tells frames blobs regions (mounts_of r) name manifest x kind answer, tt {0});
-  mounts = λ t. mount_mounts tells blobs name manifest r q x goes (both_told tells frames t);
+  mounts = λ t. mount_mounts tells blobs name manifest r q x goes (first_so tells frames t);
   bears = bears_more [] x a.faults a.faults b.faults (bears_none a.faults) source.failed source.later;
   faults = source.later;
   identity = source.identity;

@@ -1,5 +1,5 @@
 -- A run, block after block.
-use Rattle.std.proofs.Common.{◌≡◌, ◌∙◌, ◌≤◌, ◌+◌, ℕ, zero, suc, Bool, true, false, List, [], ◌∷◌, ◌++◌, length, take, drop, sym, subst, ap, refl, arith}
+use Rattle.std.proofs.Common.{◌≡◌, ◌∙◌, ◌≤◌, ◌+◌, ℕ, zero, suc, Bool, false, List, [], ◌∷◌, ◌++◌, length, take, drop, sym, subst, ap, refl, arith}
 use Rattle.std.specs.Prelude.{IsTrue, IfSome, Option, Some, None, option_map, ◌||◌, ◌&&◌, slice_get, slice_index_or}
 use Rattle.std.specs.List.{list_any}
 use Rattle.std.proofs.Math.Nat.{le_refl, le_trans}
@@ -7,6 +7,7 @@ use Rattle.std.proofs.Math.Seq.{take-length}
 use Rattle.std.proofs.lemmas.List.{append_assoc, append-nil, take_more, take-append-drop}
 use Rattle.std.proofs.lemmas.List.Folds.{list_any-append}
 use Rattle.std.proofs.lemmas.Option.{get_or_from_slice_get, slice_get_within}
+use Rattle.std.proofs.Math.Bool.{or-false}
 use Rattle.byte_text.specs.Counts.{Rose}
 use Rattle.cache_outside.specs.Clocks.{ClockView, first_time, times_after}
 use Rattle.region_ranges.specs.declared.keys.Config.{Config}
@@ -110,11 +111,7 @@ replies_more [] xs = append-nil xs
 replies_more (ys ∷ xss) xs = ap (λ (t : List Reply). ys ++ t) (replies_more xss xs) ∙ sym (append_assoc ys (all_replies xss) xs)
 
 pub some_more : (f : Reply → Bool) (xss : List (List Reply)) (xs : List Reply) → some_reply f (xss ++ xs ∷ []) ≡ (some_reply f xss || list_any f xs)
-some_more f xss xs = list_any-append (λ (block : List Reply). list_any f block) xss (xs ∷ []) ∙ ap (λ (b : Bool). some_reply f xss || b) (only (list_any f xs))
-  where
-    only : (b : Bool) → (b || false) ≡ b
-    only true = refl
-    only false = refl
+some_more f xss xs = list_any-append (λ (block : List Reply). list_any f block) xss (xs ∷ []) ∙ ap (λ (b : Bool). some_reply f xss || b) (or-false (list_any f xs))
 
 asked_more : (n : ℕ) (times : List ℕ) → times_asked n (times_after times) ≡ times_after (times_asked n times)
 asked_more zero times = refl
@@ -123,6 +120,11 @@ asked_more (suc n) times = asked_more n (times_after times)
 pub many_more : (xss : List (List Reply)) (xs : List Reply) → length (xss ++ xs ∷ []) ≡ suc (length xss)
 many_more [] xs = refl
 many_more (ys ∷ xss) xs = ap suc (many_more xss xs)
+
+-- a clock that was not asked
+pub not_asked : (o : Option (List ℕ)) → o ≡ option_map (times_asked 0) o
+not_asked None = refl
+not_asked (Some times) = refl
 
 pub clock_more : (n : ℕ) (t u d : Option (List ℕ)) → u ≡ option_map (times_asked n) t → d ≡ option_map times_after u → d ≡ option_map (times_asked (suc n)) t
 clock_more n t u d e f = f ∙ ap (option_map times_after) e ∙ by_cases t
@@ -168,16 +170,12 @@ run_new s r sums a t v none fetched direct new idle unmounted = record {
   bears = bears_none a.faults;
   faults = le_refl a.faults;
   identity = refl;
-  clock = by_cases t;
+  clock = not_asked t;
   core = later_same v;
   idle = idle;
   unmounted = unmounted;
   stats = fit_new v sums fetched direct new;
 }
-  where
-    by_cases : (o : Option (List ℕ)) → o ≡ option_map (times_asked 0) o
-    by_cases None = refl
-    by_cases (Some times) = refl
 
 -- before the first block
 pub started : {tells : Bool} {contents : ℕ → ℕ → List ℕ} (c : Cached) (s : RunSetting) (r : RosterView) (sums : Sums) (a : SourceView) (t : Option (List ℕ)) (v : CoreView) (x : SinkView) → r ≡ no_mounts → sums ≡ no_sums → IsNew v → v.config ≡ c.config → OnceLaws c.blobs → Good tells contents (state_of v)

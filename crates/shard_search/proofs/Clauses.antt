@@ -6,14 +6,14 @@ use Rattle.std.proofs.Math.Dec.{eqb-suc-zero}
 use Rattle.std.proofs.lemmas.Bool.{le-leb}
 use Rattle.std.proofs.lemmas.List.{drop_all}
 use Rattle.std.proofs.lemmas.List.FromFn.{length-range_with_len}
-use Rattle.std.proofs.Math.Bool.{and-true}
+use Rattle.std.proofs.Math.Bool.{and-true, and_assoc}
 use Rattle.doc_bits.specs.Places.{zip_with, and_not}
 use Rattle.doc_bits.specs.Counts.{counted}
 use Rattle.query_lang.specs.Trees.{Tree, Trees, no_trees, tree, compound, tree_of, trees_of}
 use Rattle.query_lang.specs.declared.query.Query.{Query}
 use Rattle.shard_search.specs.Matches.{matches, all_match, some_match, count_match, is_empty, needed}
 use Rattle.shard_search.specs.Sets.{each_of}
-use Rattle.shard_search.proofs.SetLemmas.{zip_join, zip_unit, and_is, drop_is, drop_none, with_count, count_is, plus_zero, combined, map_same}
+use Rattle.shard_search.proofs.SetLemmas.{zip_join, zip_unit, drop_is, drop_none, with_count, count_is, plus_zero, combined, map_same}
 use Rattle.byte_text.proofs.Lists.{drop_get}
 
 module _ {A C : Type 0} (f : A → Bool → A) (h : A → C → A) (k : Bool → C → C) (e : C) (law : (a : A) (b : Bool) (c : C) → h (f a b) c ≡ h a (k b c)) (unit : (a : A) → h a e ≡ a)
@@ -44,11 +44,11 @@ module _ (has : List ℕ → List ℕ → ℕ → Bool) (queries : List Query) (
   pub keep_more : (whole : List Bool) (q : Query) (set new bits : List Bool) → slice_get queries i ≡ Some q → bits ≡ each_of (matches has (tree_of q)) docs → new ≡ zip_with ◌&&◌ set bits
       → zip_with ◌&&◌ set (each_of (all_match has (trees_of (map tree_of (drop i queries)))) docs) ≡ whole
       → zip_with ◌&&◌ new (each_of (all_match has (trees_of (map tree_of (drop (i + 1) queries)))) docs) ≡ whole
-  keep_more whole = one_more ◌&&◌ ◌&&◌ ◌&&◌ true and_is and-true has (all_match has) (λ q qs. refl) refl queries i docs whole
+  keep_more whole = one_more ◌&&◌ ◌&&◌ ◌&&◌ true and_assoc and-true has (all_match has) (λ q qs. refl) refl queries i docs whole
 
   pub keep_done : (whole set : List Bool) → length queries ≤ i → length set ≡ docs
       → zip_with ◌&&◌ set (each_of (all_match has (trees_of (map tree_of (drop i queries)))) docs) ≡ whole → set ≡ whole
-  keep_done whole = all_done ◌&&◌ ◌&&◌ ◌&&◌ true and_is and-true has (all_match has) (λ q qs. refl) refl queries i docs whole
+  keep_done whole = all_done ◌&&◌ ◌&&◌ ◌&&◌ true and_assoc and-true has (all_match has) (λ q qs. refl) refl queries i docs whole
 
   pub drop_more : (whole : List Bool) (q : Query) (set new bits : List Bool) → slice_get queries i ≡ Some q → bits ≡ each_of (matches has (tree_of q)) docs → new ≡ zip_with and_not set bits
       → zip_with and_not set (each_of (some_match has (trees_of (map tree_of (drop i queries)))) docs) ≡ whole

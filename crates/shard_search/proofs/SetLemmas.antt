@@ -11,14 +11,6 @@ use Rattle.doc_bits.proofs.Lists.{length-zip_with}
 use Rattle.shard_search.specs.Sets.{each_of}
 use Rattle.doc_bits.proofs.Lists.{filter-range_same as filter_same}
 
-pub and_is : (a b c : Bool) → ((a && b) && c) ≡ (a && (b && c))
-and_is true b c = refl
-and_is false b c = refl
-
-pub or_is : (a b c : Bool) → ((a || b) || c) ≡ (a || (b || c))
-or_is true b c = refl
-or_is false b c = refl
-
 pub drop_is : (a b c : Bool) → and_not (and_not a b) c ≡ and_not a (b || c)
 drop_is true true c = refl
 drop_is true false c = refl

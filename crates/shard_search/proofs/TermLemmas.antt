@@ -4,14 +4,14 @@ use Rattle.std.specs.Prelude.{slice_get, slice_set, ◌||◌, ◌==◌}
 use Rattle.std.specs.List.{range_with_len}
 use Rattle.std.proofs.lemmas.List.{drop_all}
 use Rattle.std.proofs.lemmas.List.FromFn.{length-range_with_len}
-use Rattle.std.proofs.Math.Bool.{or-false}
+use Rattle.std.proofs.Math.Bool.{or-false, or_assoc}
 use Rattle.doc_bits.specs.Places.{zip_with}
 use Rattle.simpletext_postings.specs.Rows.{RiseWithin, is_of, has_row}
 use Rattle.simpletext_postings.specs.Terms.{posting_doc, postings_with}
 use Rattle.simpletext_postings.specs.declared.rows.Row.{Row}
 use Rattle.simpletext_postings.specs.declared.posting.Posting.{Posting}
 use Rattle.shard_search.specs.Sets.{each_of, has_posting}
-use Rattle.shard_search.proofs.SetLemmas.{zip_join, zip_unit, or_is, put_is, each_same}
+use Rattle.shard_search.proofs.SetLemmas.{zip_join, zip_unit, put_is, each_same}
 use Rattle.byte_text.proofs.Lists.{drop_get}
 
 pub one_more : (postings : List Posting) (i docs : ℕ) (p : Posting) (set new whole : List Bool) → slice_get postings i ≡ Some p → length set ≡ docs → new ≡ slice_set set p.doc true
@@ -19,7 +19,7 @@ pub one_more : (postings : List Posting) (i docs : ℕ) (p : Posting) (set new w
     → zip_with ◌||◌ new (each_of (has_posting (drop (i + 1) postings)) docs) ≡ whole
 one_more postings i docs p set new whole at n made before =
     ap (λ s. zip_with ◌||◌ s (each_of (has_posting (drop (i + 1) postings)) docs)) (made ∙ put_is set p.doc docs n)
-    ∙ zip_join ◌||◌ ◌||◌ ◌||◌ or_is set (λ d. p.doc == d) (has_posting (drop (i + 1) postings)) (range_with_len 0 docs)
+    ∙ zip_join ◌||◌ ◌||◌ ◌||◌ or_assoc set (λ d. p.doc == d) (has_posting (drop (i + 1) postings)) (range_with_len 0 docs)
     ∙ ap (λ ps. zip_with ◌||◌ set (each_of (has_posting ps) docs)) (sym (drop_get postings i p at))
     ∙ before
 

@@ -4,6 +4,7 @@ use Rattle.std.specs.Prelude.{◌==◌, ◌||◌, IsTrue, Option, Some, None, co
 use Rattle.std.specs.Str.{bytes_eq}
 use Rattle.std.proofs.lemmas.Bool.Decides.{Decides-eqb}
 use Rattle.std.proofs.lemmas.Slice.Eq.{bytes_eq-Decides}
+use Rattle.std.proofs.Math.Bool.{or-true}
 use Rattle.cache_outside.specs.Listing.{Listing}
 use Rattle.index_mounts.specs.Rosters.{MountView, RosterView, IsRoster, mounted}
 use Rattle.mount_script.specs.declared.command.Command.{Command}
@@ -85,13 +86,9 @@ module _ (tells : Bool) (blobs : Listing) (r : RosterView) (kept : IsRoster tell
   lines_name told seen (l ∷ ls) [] shared h u = absurd (cc)
   lines_name told seen (l ∷ ls) (x ∷ xs) shared h u = by_line (unmounts r l.command x m.mount) refl (lines_name told seen ls xs shared.1 h.1)
     where
-      or_true : (b : Bool) → (b || true) ≡ true
-      or_true true = refl
-      or_true false = refl
-
       by_line : (b : Bool) → unmounts r l.command x m.mount ≡ b → (unmounted_by r ls xs m.mount ≡ true → unmounted_in ls name ≡ true) → unmounted_in (l ∷ ls) name ≡ true
       by_line true e f = ap (λ (b : Bool). b || unmounted_in ls name) (line_names l.command x shared.0 h.0.kind e)
-      by_line false e f = ap (λ (b : Bool). is_unmount_of name l.command || b) (f (rw e at u)) ∙ or_true (is_unmount_of name l.command)
+      by_line false e f = ap (λ (b : Bool). is_unmount_of name l.command || b) (f (rw e at u)) ∙ or-true (is_unmount_of name l.command)
 
 -- Where the mounts of the roster that were seen gone are those that the block's lines unmounted, its replies are allowed ones.
 pub block_allowed : (s : RunSetting) (tells : Bool) (r : RosterView) (seen : ℕ → Bool) (block : List Line) (xs : List Reply) → (s.workers == 1) ≡ false → IsRoster tells s.blobs r → NoMounts block

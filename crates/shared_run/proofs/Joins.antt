@@ -3,9 +3,10 @@ use Rattle.std.proofs.Common.{◌≡◌, ◌∙◌, ◌+◌, ◌++◌, ℕ, List
 use Rattle.std.specs.Prelude.{Option, Some, None}
 use Rattle.std.proofs.lemmas.List.{append_assoc, append-nil}
 use Rattle.cache_reader.specs.Reports.{Grew}
+use Rattle.cache_reader.specs.Through.{grew_more}
 use Rattle.cache_table.specs.Views.{PassView}
 use Rattle.shared_run.specs.Gathered.{JoinedWith, sum_of, lists_of, JoinedAll}
-use Rattle.shared_run.proofs.LinesDone.{grew_on, grew_by, same_grew}
+use Rattle.shared_run.proofs.LinesDone.{grew_by, same_grew}
 
 sum_more : (f : PassView → ℕ) (os : List (Option PassView)) (q : PassView) → sum_of f (os ++ Some q ∷ []) ≡ sum_of f os + f q
 sum_more f [] q = omega arith
@@ -32,8 +33,8 @@ joined_none p = record {
     sum : (n : ℕ) → n ≡ n + 0
     sum n = omega arith
 
-grew_more : (a b c : ℕ) (f : PassView → ℕ) (os : List (Option PassView)) (q : PassView) → Grew a b (sum_of f os) → Grew b c (f q) → Grew a c (sum_of f (os ++ Some q ∷ []))
-grew_more a b c f os q h k = subst (Grew a c) (sym (sum_more f os q)) (grew_on a b c (sum_of f os) (f q) h k)
+sum_grew : (a b c : ℕ) (f : PassView → ℕ) (os : List (Option PassView)) (q : PassView) → Grew a b (sum_of f os) → Grew b c (f q) → Grew a c (sum_of f (os ++ Some q ∷ []))
+sum_grew a b c f os q h k = subst (Grew a c) (sym (sum_more f os q)) (grew_more a b c (sum_of f os) (f q) h k)
 
 pub joined_more : (p : PassView) (os : List (Option PassView)) (q : PassView) (o : Option PassView) (r : PassView) → JoinedAll p os q → JoinedWith q o r → JoinedAll p (os ++ o ∷ []) r
 joined_more p os q None r h k = absurd k
@@ -43,9 +44,9 @@ joined_more p os q (Some s) r h k = record {
       ∙ ap (λ (l : List ℕ). p.view.unmounted ++ l) (sym (lists_more (λ (t : PassView). t.view.unmounted) os s));
   gone = k.gone ∙ ap (λ (l : List ℕ). l ++ s.view.gone) h.gone ∙ append_assoc p.view.gone (lists_of (λ (t : PassView). t.view.gone) os) s.view.gone
       ∙ ap (λ (l : List ℕ). p.view.gone ++ l) (sym (lists_more (λ (t : PassView). t.view.gone) os s));
-  decays = grew_more p.work.decays q.work.decays r.work.decays (λ (t : PassView). t.work.decays) os s h.decays (grew_by _ _ _ k.work.decays);
-  clears = grew_more p.work.clears q.work.clears r.work.clears (λ (t : PassView). t.work.clears) os s h.clears (grew_by _ _ _ k.work.clears);
-  stored = grew_more p.work.stored q.work.stored r.work.stored (λ (t : PassView). t.work.stored) os s h.stored (grew_by _ _ _ k.work.stored);
-  turned = grew_more p.work.turned_away q.work.turned_away r.work.turned_away (λ (t : PassView). t.work.turned_away) os s h.turned (grew_by _ _ _ k.work.turned_away);
+  decays = sum_grew p.work.decays q.work.decays r.work.decays (λ (t : PassView). t.work.decays) os s h.decays (grew_by _ _ _ k.work.decays);
+  clears = sum_grew p.work.clears q.work.clears r.work.clears (λ (t : PassView). t.work.clears) os s h.clears (grew_by _ _ _ k.work.clears);
+  stored = sum_grew p.work.stored q.work.stored r.work.stored (λ (t : PassView). t.work.stored) os s h.stored (grew_by _ _ _ k.work.stored);
+  turned = sum_grew p.work.turned_away q.work.turned_away r.work.turned_away (λ (t : PassView). t.work.turned_away) os s h.turned (grew_by _ _ _ k.work.turned_away);
   whole = λ _. k.whole;
 }

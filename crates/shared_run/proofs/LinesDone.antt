@@ -12,13 +12,14 @@ use Rattle.region_ranges.specs.declared.keys.Config.{Config}
 use Rattle.cache_outside.specs.Listing.{Listing}
 use Rattle.cache_outside.specs.Sources.{SourceView}
 use Rattle.blob_parts.specs.Takes.{SourceLater, Took}
-use Rattle.blob_parts.specs.Reading.{took_none, took_both}
+use Rattle.blob_parts.specs.Reading.{took_none, took_both, rose_first, rose_then}
 use Rattle.index_mounts.specs.Rosters.{MountView, RosterView, mounted}
 use Rattle.cache_door.specs.declared.work.Work.{Work}
 use Rattle.cache_door.specs.Doors.{Grown, Rises, Works, no_work, with_mount}
 use Rattle.cache_reader.specs.declared.report.Report.{Report}
 use Rattle.cache_reader.specs.Bounds.{Bounded}
 use Rattle.cache_reader.specs.Reports.{Grew}
+use Rattle.cache_reader.specs.Through.{grew_more}
 use Rattle.cache_reader.specs.Going.{Moment}
 use Rattle.mount_script.specs.declared.command.Command.{Command}
 use Rattle.mount_script.specs.declared.command.Command.TheVariants.{Mount, Unmount, Clear, Decay, Stats, Search, Fetch, Read}
@@ -29,6 +30,7 @@ use Rattle.shard_replies.specs.Answers.{HasHits, HasFields, HasBytes}
 use Rattle.shard_replies.specs.ExpectedReplies.{expected_reply, used_name, refused}
 use Rattle.script_run.specs.Mounting.{mounts_of}
 use Rattle.script_run.specs.Allowed.{reads_files, is_fault, is_memory, Bears}
+use Rattle.script_run.proofs.Blocks.{bears_one}
 use Rattle.script_run.specs.Lines.{is_shared, Cached, cached, reading, IsAnswer, IsMarked, IsOrNoMemory, HasKind, FilesKind, FilesRead, LineDoes}
 use Rattle.shared_run.specs.Workers.{ReplyKind, MarkSeen, LineAnswered, AllAnswered, is_decayed, is_cleared, has_number, unmounts, unmounted_by, LinesTook, LineWorks, LinesDid}
 
@@ -89,22 +91,12 @@ any_more f xs x h = split (list_any f xs) (f x) (sym (list_any-append f xs (x �
     split false true e = absurd (cc)
     split false false e = (refl, refl)
 
-bears_one : (n before mid now : ℕ) → Bears n before mid → Rose mid now → Bears (n + 1) before now
-bears_one n before mid now b r = omega (arith, b, r)
-
 bears_on : (n before mid now : ℕ) → Bears n before mid → mid ≤ now → Bears (n + 0) before now
 bears_on n before mid now b r = omega (arith, b, r)
 
 bears_more : (n before mid now : ℕ) (x : Reply) → Bears n before mid → (x ≡ reply.Fault → Rose mid now) → mid ≤ now → Bears (n + cond (is_fault x) 1 0) before now
 bears_more n before mid now reply.Fault b r later = bears_one n before mid now b (r refl)
 bears_more n before mid now x b r later = bears_on n before mid now b later
-
-pub grew_on : (a b c m n : ℕ) → Grew a b m → Grew b c n → Grew a c (m + n)
-grew_on a b c m n h k = record {
-  later = le_trans h.later k.later;
-  most = omega (arith, h.most, k.most);
-  whole = λ below. (let q = k.whole below in let p = h.whole (omega (arith, k.later, below)) in omega (arith, p, q));
-}
 
 pub grew_by : (a b n : ℕ) → Rises a b n → Grew a b n
 grew_by a b n h = let p = h.value in record { later = h.later; most = omega (arith, p); whole = λ below. omega (arith, p, below) }
@@ -145,12 +137,6 @@ took_on range first then both x y z lacks up on s u t h k = record {
       let n = k.bound e.1 (λ rose. calm (rose_then x.source.faults y.source.faults z.source.faults up rose)) in
       subst (Bounded range x.door.work z.door.work) (sym (length-append h.places k.places)) (bounded_on range x.door.work y.door.work z.door.work (length h.places) (length k.places) s u t m n);
 }
-  where
-    rose_first : (a b c : ℕ) → b ≤ c → Rose a b → Rose a c
-    rose_first a b c h r = omega (arith, h, r)
-
-    rose_then : (a b c : ℕ) → a ≤ b → Rose b c → Rose a c
-    rose_then a b c h r = omega (arith, h, r)
 
 took_nothing : (range : ℕ) (lacks : Bool) (y z : Moment) → z.source ≡ y.source → Grew y.door.work.stored z.door.work.stored 0 → Grew y.door.work.turned_away z.door.work.turned_away 0 → LinesTook range lacks y z
 took_nothing range lacks y z e s t = record {
@@ -323,8 +309,8 @@ module _ (tells : Bool) (blobs : Listing) (config : Config) (r : RosterView) (no
         seen = λ n g. grown n (h.seen n g);
         unmounted = λ n. w.unmounted n ∙ ap (λ (b : Bool). unmounts r l.command x n || b) (h.unmounted n)
             ∙ sym (unmounted_more (tells && p.door.frames_tell) blobs r y.door.seen_gone ls xs l x n (p.door.unmounted n) h.answered);
-        decays = subst (Grew p.door.work.decays z.door.work.decays) (sym (counted is_decayed xs x)) (grew_on _ _ _ (count_by is_decayed xs) (cond (is_decayed x) 1 0) h.decays w.decays);
-        clears = subst (Grew p.door.work.clears z.door.work.clears) (sym (counted is_cleared xs x)) (grew_on _ _ _ (count_by is_cleared xs) (cond (is_cleared x) 1 0) h.clears w.clears);
+        decays = subst (Grew p.door.work.decays z.door.work.decays) (sym (counted is_decayed xs x)) (grew_more _ _ _ (count_by is_decayed xs) (cond (is_decayed x) 1 0) h.decays w.decays);
+        clears = subst (Grew p.door.work.clears z.door.work.clears) (sym (counted is_cleared xs x)) (grew_more _ _ _ (count_by is_cleared xs) (cond (is_cleared x) 1 0) h.clears w.clears);
         stored = le_trans h.stored w.stored;
         turned = le_trans h.turned w.turned;
         took = λ t. took_on config.range (list_any is_memory xs) (is_memory x) (list_any is_memory (xs ++ x ∷ [])) p y z (any_more is_memory xs x) h.faults source.later

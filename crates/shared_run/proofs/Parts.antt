@@ -3,6 +3,7 @@ use Rattle.std.proofs.Common.{◌≡◌, ◌<◌, ◌+◌, ℕ, Bool, true, fals
 use Rattle.std.specs.Prelude.{◌||◌, ◌==◌, ◌%◌, count_by}
 use Rattle.std.proofs.lemmas.Bool.Decides.{Decides-eqb}
 use Rattle.std.proofs.lemmas.List.Sums.{sum_by-cons}
+use Rattle.std.proofs.Math.Bool.{or-true}
 use Rattle.cache_outside.specs.Listing.{Listing}
 use Rattle.index_mounts.specs.Rosters.{RosterView}
 use Rattle.mount_script.specs.declared.command.Line.{Line}
@@ -69,8 +70,4 @@ module _ (tells : Bool) (blobs : Listing) (r : RosterView) (seen : ℕ → Bool)
 
       by_share : (b : Bool) → (k % w == i) ≡ b → (unmounted_by r (share w i (k + 1) ls) (share w i (k + 1) xs) n ≡ true → unmounted_by r ls xs n ≡ true) → unmounted_by r (l ∷ ls) (x ∷ xs) n ≡ true
       by_share true e f = by_line (unmounts r l.command x n) (unmounted_by r (share w i (k + 1) ls) (share w i (k + 1) xs) n) (rw e at h) f
-      by_share false e f = by_line (unmounts r l.command x n) true (or_true (unmounts r l.command x n)) (λ t. f (rw e at h))
-        where
-          or_true : (b : Bool) → (b || true) ≡ true
-          or_true true = refl
-          or_true false = refl
+      by_share false e f = by_line (unmounts r l.command x n) true (or-true (unmounts r l.command x n)) (λ t. f (rw e at h))

@@ -1,5 +1,6 @@
 -- A run by several workers, block after block.
 use Rattle.std.proofs.Common.{◌≡◌, ◌∙◌, ◌≤◌, ◌<◌, ◌+◌, ℕ, zero, suc, Bool, true, false, cond, List, [], ◌∷◌, ◌++◌, length, map, set, take, drop, get_or, sym, subst, ap, ap₂, refl, inl, inr, arith, mod-eq_of_lt, min}
+use Rattle.std.specs.Cmp.{first_so}
 use Rattle.std.specs.Prelude.{IsTrue, Option, Some, None, option_map, ◌||◌, ◌&&◌, ◌==◌, ◌%◌, ◌^◌, ◌-◌, ◌*◌, count_by, sum_by, slice_get}
 use Rattle.std.specs.List.{list_any}
 use Rattle.std.specs.Str.{bytes_eq}
@@ -8,6 +9,7 @@ use Rattle.std.proofs.Math.Seq.{take-length}
 use Rattle.std.proofs.lemmas.Bool.Decides.{Decides-eqb}
 use Rattle.std.proofs.lemmas.List.{append-nil, take-append-drop}
 use Rattle.std.proofs.lemmas.List.Sums.{sum_by-append}
+use Rattle.std.proofs.Math.Bool.{or-true}
 use Rattle.byte_text.specs.Counts.{Rose}
 use Rattle.blob_parts.specs.Takes.{SourceLater}
 use Rattle.blob_parts.specs.Reading.{rose_first, rose_then}
@@ -16,7 +18,7 @@ use Rattle.cache_outside.specs.Listing.{Listing}
 use Rattle.cache_outside.specs.Sinks.{SinkView, behind}
 use Rattle.cache_outside.specs.Sources.{SourceView}
 use Rattle.cache_reader.specs.Reports.{Grew}
-use Rattle.cache_reader.specs.Through.{bounded_none, bounded_more}
+use Rattle.cache_reader.specs.Through.{grew_more, bounded_none, bounded_more}
 use Rattle.region_ranges.specs.declared.keys.Config.{Config}
 use Rattle.cache_table.specs.Calls.{marks}
 use Rattle.cache_table.specs.Views.{CacheView, PassView}
@@ -39,15 +41,15 @@ use Rattle.script_run.specs.Texts.{run_text, block_text}
 use Rattle.script_run.specs.declared.ended.Ended.{Ended}
 use Rattle.script_run.specs.declared.ended.Ended.TheVariants.{Done, SinkFault, NoMemory}
 use Rattle.script_run.proofs.Behind.{written_more, front_more, behind_nothing}
-use Rattle.script_run.proofs.Blocks.{both_told, no_mounts_of, block_makes, block_made, same_mounts, number_cond, mount_mounts, mount_cases}
+use Rattle.script_run.proofs.Blocks.{no_mounts_of, block_makes, block_made, same_mounts, number_cond, mount_mounts, mount_cases}
 use Rattle.script_run.proofs.Rosters.{mounted_with}
-use Rattle.script_run.proofs.Runs.{allowed_length, from_with, after_more, allowed_run, bears_add, faults_more, replies_more, some_more, many_more, clock_more, text_more, front_all, next_blocks}
+use Rattle.script_run.proofs.Runs.{allowed_length, from_with, after_more, allowed_run, bears_add, faults_more, replies_more, some_more, many_more, clock_more, not_asked, text_more, front_all, next_blocks}
 use Rattle.script_run.proofs.Steps.{count_more}
 use Rattle.shared_run.specs.Blocks.{several, source_at, AllTook, BlockDid}
 use Rattle.shared_run.specs.Runs.{outsides, IsAsked, BytesTaken, BlockTaken, AllTaken, NoneRose, IsSharedRun, NoneGone, BlockRan, RunSoFar, WrittenSoFar}
 use Rattle.shared_run.specs.Workers.{ReplyKind, AllAnswered, has_number, unmounts, unmounted_by, is_decayed, is_cleared}
 use Rattle.shared_run.proofs.Allows.{line_names}
-use Rattle.shared_run.proofs.LinesDone.{grew_on, same_grew}
+use Rattle.shared_run.proofs.LinesDone.{same_grew}
 use Rattle.shared_run.proofs.Shares.{other_is}
 
 -- ---- bytes taken
@@ -132,13 +134,9 @@ module _ (tells : Bool) (blobs : Listing) (r : RosterView) (kept : IsRoster tell
   block_forgets told seen (l ∷ ls) [] one h u = absurd h
   block_forgets told seen (l ∷ ls) (x ∷ xs) one h u = by_line (unmounts r l.command x m.mount) refl u (block_forgets told seen ls xs one.1 h.1)
     where
-      or_true : (b : Bool) → (b || true) ≡ true
-      or_true true = refl
-      or_true false = refl
-
       by_line : (b : Bool) → unmounts r l.command x m.mount ≡ b → (b || unmounted_by r ls xs m.mount) ≡ true → (unmounted_by r ls xs m.mount ≡ true → forgets_any ls xs name ≡ true) → forgets_any (l ∷ ls) (x ∷ xs) name ≡ true
       by_line true e u f = ap (λ (b : Bool). b || forgets_any ls xs name) (forgets_own l.command x one.0 h.0.kind e)
-      by_line false e u f = ap (λ (b : Bool). forgets l.command x name || b) (f u) ∙ or_true (forgets l.command x name)
+      by_line false e u f = ap (λ (b : Bool). forgets l.command x name || b) (f u) ∙ or-true (forgets l.command x name)
 
 module _ (e : Cached) (c : CacheView) (w regions : ℕ) (r q : RosterView) (block : List Line) (xs : List Reply) (before now : List SourceView) (p t : PassView)
     (kept : IsRoster e.tells e.blobs r) (plain : NoMounts block) (none : NoneGone r p) (did : BlockDid e c w r block xs before now p t) (f : Forgotten block xs r q) where
@@ -286,8 +284,8 @@ mount_one tells frames blobs config w regions number name manifest r q x a b ss 
     let l : Line = record { number = number; command = Mount name manifest } in
     let quiet = mount_quiet x kind in
     record {
-      allowed = (mount_fits s (mounts_of r) (near_lines s (l ∷ []) []) tells name manifest x (both_told tells frames) kind answer, tt {0});
-      mounts = λ k. mount_mounts tells blobs name manifest r q x goes (both_told tells frames k);
+      allowed = (mount_fits s (mounts_of r) (near_lines s (l ∷ []) []) tells name manifest x (first_so tells frames) kind answer, tt {0});
+      mounts = λ k. mount_mounts tells blobs name manifest r q x goes (first_so tells frames k);
       bears = λ i. (mount_bears w i x a b ss some source).0;
       faults = λ i. (mount_bears w i x a b ss some source).1;
       identities = ap (λ (n : ℕ). n ∷ map (λ s. s.identity) ss) source.identity;
@@ -330,8 +328,8 @@ module _ (e : Cached) (s : RunSetting) where
             (bears_add (run_faults s.workers i replies) (faults_of s.workers i 0 xs) (source_at a i).faults (source_at b i).faults (source_at c i).faults (h.bears i) (g.bears i));
         identities = g.identities ∙ h.identities;
         clock = clock_more (length done) t u d h.clock asked ∙ ap (λ (n : ℕ). option_map (times_asked n) t) (sym (count_more done block));
-        decays = subst (Grew p.work.decays y.work.decays) (sym (counted is_decayed)) (grew_on p.work.decays k.work.decays y.work.decays (count_by is_decayed (all_replies replies)) (count_by is_decayed xs) h.decays g.decays);
-        clears = subst (Grew p.work.clears y.work.clears) (sym (counted is_cleared)) (grew_on p.work.clears k.work.clears y.work.clears (count_by is_cleared (all_replies replies)) (count_by is_cleared xs) h.clears g.clears);
+        decays = subst (Grew p.work.decays y.work.decays) (sym (counted is_decayed)) (grew_more p.work.decays k.work.decays y.work.decays (count_by is_decayed (all_replies replies)) (count_by is_decayed xs) h.decays g.decays);
+        clears = subst (Grew p.work.clears y.work.clears) (sym (counted is_cleared)) (grew_more p.work.clears k.work.clears y.work.clears (count_by is_cleared (all_replies replies)) (count_by is_cleared xs) h.clears g.clears);
         faults = λ i. le_trans (h.faults i) (g.faults i);
         took = λ o. (let j = h.took o in let n = g.took o in record {
           bytes = j.bytes + n.bytes;
@@ -357,7 +355,7 @@ module _ (e : Cached) (s : RunSetting) where
       mounts = λ k. ap mounts_of is;
       bears = λ i. nothing (source_at a i).faults;
       identities = refl;
-      clock = by_cases t;
+      clock = not_asked t;
       decays = same_grew p.work.decays p.work.decays 0 refl refl;
       clears = same_grew p.work.clears p.work.clears 0 refl refl;
       faults = λ i. le_refl (source_at a i).faults;
@@ -372,10 +370,6 @@ module _ (e : Cached) (s : RunSetting) where
     where
       nothing : (n : ℕ) → min (n + 0) (2 ^ 64 - 1) ≤ n
       nothing n = omega arith
-
-      by_cases : (o : Option (List ℕ)) → o ≡ option_map (times_asked 0) o
-      by_cases None = refl
-      by_cases (Some times) = refl
 
   ended : (script blocks rest : List (List Line)) (replies : List (List Reply)) (r : RosterView) (a b : List SourceView) (x y : SinkView) (t u v : ClockView) (p q : PassView) (end : Ended)
       → script ≡ blocks ++ rest → RunSoFar e s blocks replies r a b t.times u.times p q → EndsBy blocks rest replies x y end → IsAsked (length blocks) end t.times v.times

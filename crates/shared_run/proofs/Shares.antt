@@ -1,12 +1,16 @@
 -- Workers' parts of a list.
 use Rattle.std.proofs.Common.{◌≡◌, ◌∙◌, ◌≢◌, ◌<◌, ◌+◌, ℕ, zero, suc, Bool, true, false, cond, List, [], ◌∷◌, ◌++◌, length, take, drop, get_or, sym, ap, refl, inl, inr, arith, add-zero}
-use Rattle.std.specs.Prelude.{◌==◌, ◌%◌}
+use Rattle.std.specs.Prelude.{◌==◌, ◌%◌, ◌||◌}
 use Rattle.std.proofs.lemmas.List.{length-append, length-take-le, take_more, take-append-drop, append-nil}
 use Rattle.std.proofs.lemmas.Bool.Decides.{eqb_tells}
 use Rattle.mount_script.specs.declared.command.Line.{Line}
 use Rattle.shared_run.specs.Shares.{share}
 use Rattle.script_run.specs.Blocks.{NoMounts}
 use Rattle.script_run.specs.Lines.{is_mount}
+
+pub first_holds : (x y : Bool) → y ≡ false → (x || y) ≡ true → x ≡ true
+first_holds true y e k = refl
+first_holds false y e k = absurd (cc)
 
 pub other_is : (a b : ℕ) → a ≢ b → (a == b) ≡ false
 other_is a b h = elim (eqb_tells a b) [

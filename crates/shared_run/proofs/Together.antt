@@ -31,7 +31,7 @@ use Rattle.shared_run.specs.Shares.{share}
 use Rattle.shared_run.specs.Workers.{AllAnswered, LinesDid, unmounted_by, is_decayed, is_cleared}
 use Rattle.shared_run.proofs.LinesDone.{answered_grown}
 use Rattle.shared_run.proofs.Parts.{faults_are, answered_all, unmounted_some, unmounted_all}
-use Rattle.shared_run.proofs.Shares.{other_is}
+use Rattle.shared_run.proofs.Shares.{other_is, first_holds}
 use Rattle.shared_run.proofs.Sums.{counts, counts_all, none_of_share, Reaches, reaches_both, reaches_none, reaches_grew, grew_reaches}
 
 or_some : {Z : Type 0} (a b : Bool) → (a || b) ≡ true → (a ≡ true → Z) → (b ≡ true → Z) → Z
@@ -145,15 +145,11 @@ module _ (e : Cached) (c : CacheView) (r : RosterView) (w : ℕ) (block : List L
   some_worker i [] [] [] [] [] dealt ran fits n h = absurd (cc)
   some_worker i (xs ∷ xss) (a ∷ olds) (b ∷ news) (Some s ∷ os) (Some t ∷ qs) dealt ran fits n h =
       or_some (marks t.view.unmounted n) (marks (lists_of (λ q. q.view.unmounted) qs) n) (sym (marks_both t.view.unmounted (lists_of (λ q. q.view.unmounted) qs) n) ∙ h)
-      (λ own. (i, ap (λ (ys : List Reply). unmounted_by r (share w i 0 block) ys n) fits.0 ∙ by_new (unmounted_by r (share w i 0 block) xs n) (marks s.view.unmounted n) (fresh s dealt.0) (sym (ran.0.did.unmounted n) ∙ own)))
+      (λ own. (i, ap (λ (ys : List Reply). unmounted_by r (share w i 0 block) ys n) fits.0 ∙ first_holds (unmounted_by r (share w i 0 block) xs n) (marks s.view.unmounted n) (fresh s dealt.0) (sym (ran.0.did.unmounted n) ∙ own)))
       (λ rest. some_worker (i + 1) xss olds news os qs dealt.1 ran.1 fits.1 n rest)
     where
       fresh : (s : PassView) → IsShare c p s → marks s.view.unmounted n ≡ false
       fresh s k = ap (λ (v : _). marks v.unmounted n) k.view
-
-      by_new : (x y : Bool) → y ≡ false → (x || y) ≡ true → x ≡ true
-      by_new true y e k = refl
-      by_new false y e k = absurd (cc)
   some_worker i (xs ∷ xss) (a ∷ olds) (b ∷ news) (None ∷ os) qs dealt ran fits n h = absurd dealt.0
   some_worker i (xs ∷ xss) (a ∷ olds) (b ∷ news) (Some s ∷ os) [] dealt ran fits n h = absurd ran
   some_worker i (xs ∷ xss) (a ∷ olds) (b ∷ news) (Some s ∷ os) (None ∷ qs) dealt ran fits n h = absurd ran.0

@@ -1,6 +1,6 @@
 -- A whole block, of what its workers did.
-use Rattle.std.proofs.Common.{◌≡◌, ◌∙◌, ◌≤◌, ◌<◌, ◌+◌, ℕ, zero, suc, Bool, true, false, List, [], ◌∷◌, length, get_or, sym, ap, refl, arith, add-zero, zero-add}
-use Rattle.std.specs.Prelude.{◌||◌, ◌&&◌, Option, Some, None}
+use Rattle.std.proofs.Common.{◌≡◌, ◌∙◌, ◌≤◌, ◌<◌, ◌+◌, ℕ, zero, suc, true, List, [], ◌∷◌, length, get_or, sym, ap, refl, arith, add-zero, zero-add}
+use Rattle.std.specs.Prelude.{◌&&◌, Option, Some, None}
 use Rattle.cache_outside.specs.Sources.{SourceView}
 use Rattle.cache_table.specs.Calls.{marks}
 use Rattle.cache_table.specs.Views.{CacheView, PassView}
@@ -17,7 +17,7 @@ use Rattle.shared_run.specs.Shares.{share}
 use Rattle.shared_run.specs.Workers.{unmounted_by}
 use Rattle.shared_run.proofs.Allows.{block_allowed}
 use Rattle.shared_run.proofs.Runs.{answered_length}
-use Rattle.shared_run.proofs.Shares.{other_is}
+use Rattle.shared_run.proofs.Shares.{other_is, first_holds}
 
 module _ (e : Cached) (c : CacheView) (r : RosterView) (w : ℕ) (block : List Line) (p : PassView) where
   -- each worker has a reply to each of its lines
@@ -55,12 +55,8 @@ module _ (e : Cached) (c : CacheView) (r : RosterView) (w : ℕ) (block : List L
     allowed_whole replies before now regions two did kept plain whole none =
         block_allowed (several (e.tells && c.about.tells) e.blobs w regions) e.tells r (marks q.view.gone) block replies (other_is w 1 (λ e. absurd (omega (arith, two, e)))) kept plain did.answered by_line
       where
-        new : (x y : Bool) → y ≡ false → (x || y) ≡ true → x ≡ true
-        new true y e k = refl
-        new false y e k = absurd (cc)
-
         by_line : (name : List ℕ) (m : MountView) → mounted name r ≡ Some m → marks q.view.gone m.mount ≡ true → unmounted_by r block replies m.mount ≡ true
         by_line name m is seen =
             let some = some_back 0 xss olds news ran.dealt ran.back ran.shares ran.ran (omega (arith, two, ran.many)) in
             let own = ran.joined.whole some whole m.mount seen in
-            new (unmounted_by r block replies m.mount) (marks p.view.unmounted m.mount) (none name m is) (sym (did.unmounted m.mount) ∙ own)
+            first_holds (unmounted_by r block replies m.mount) (marks p.view.unmounted m.mount) (none name m is) (sym (did.unmounted m.mount) ∙ own)

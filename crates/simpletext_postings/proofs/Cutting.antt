@@ -70,7 +70,7 @@ cut_more x y rest slash line s l =
     ap (λ b. if b then ended (cut (y ∷ rest)) else if x == backslash then in_front y 2 (cut rest) else in_front x 1 (cut (y ∷ rest))) l
     ∙ ap (λ b. if line then ended (cut (y ∷ rest)) else if b then in_front y 2 (cut rest) else in_front x 1 (cut (y ∷ rest))) s
 
-cut_none : cut [] ≡ nothing
+pub cut_none : cut [] ≡ nothing
 unfolding cut
 cut_none = refl
 

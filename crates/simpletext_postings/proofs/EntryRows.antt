@@ -3,6 +3,7 @@ use Rattle.std.proofs.Common.{arith, ◌≡◌, ℕ, ◌+◌, ◌-◌, ◌≤◌
 use Rattle.std.specs.Prelude.{◌==◌, ◌&&◌, ◌||◌, is_some, filter, nat_lt, nat_le, if◌then◌else◌, Result, Ok, Err}
 use Rattle.std.specs.List.{list_all, flat_map}
 use Rattle.std.specs.Str.{bytes_eq}
+use Rattle.std.proofs.Math.Bool.{and-true, and-false}
 use Rattle.std.proofs.Math.Logic.{◌⊎◌, inl, inr}
 use Rattle.std.proofs.lemmas.Bool.{and_parts, and_from}
 use Rattle.std.proofs.lemmas.Bool.Decides.{nat_tests}
@@ -73,15 +74,6 @@ walk docs past at (l ∷ ls) tail fs h = walk_by docs past at l ls tail fs _ _ _
 
 -- ---- behind the end
 
-and_false : (b c : Bool) → (b && false && c) ≡ false
-and_false true c = refl
-and_false false c = refl
-
-and_false_last : (b c : Bool) → (b && c && false) ≡ false
-and_false_last true true = refl
-and_false_last true false = refl
-and_false_last false c = refl
-
 refused_sum : (docs : ℕ) (past : List Form) (f : Form) → is_allowed docs (Checksum ∷ past) f ≡ false
 refused_sum docs past (Field x) = refl
 refused_sum docs past (Term x) = refl
@@ -98,7 +90,7 @@ refused_sum docs past Unknown = refl
 
 after_sum : (docs : ℕ) (past : List Form) (ls : List Taken) (fs : List Form) → Walk docs (Checksum ∷ past) ls fs → (fs ≡ []) × (ls ≡ [])
 after_sum docs past [] fs w = (w, refl)
-after_sum docs past (l ∷ ls) fs (_, inl (_, p, _)) = absurd (true≢false (sym p ∙ and_false_last (is_some (last_term past)) true))
+after_sum docs past (l ∷ ls) fs (_, inl (_, p, _)) = absurd (true≢false (sym p ∙ and-false (is_some (last_term past) && true)))
 after_sum docs past (l ∷ ls) fs (_, inr (_, _, a, _)) = absurd (true≢false (sym a ∙ refused_sum docs past (form_of l.content)))
 
 end_form : (docs : ℕ) (past : List Form) (f : Form) → is_allowed docs (End ∷ past) f ≡ true → f ≡ Checksum
@@ -121,7 +113,7 @@ record IsOver (ls : List Taken) (fs : List Form) : Type 0 where
 
 after_end : (docs : ℕ) (past : List Form) (ls : List Taken) (fs : List Form) → Walk docs (End ∷ past) ls fs → IsOver ls fs
 after_end docs past [] fs w = record { own = ap own_positions w; none = refl }
-after_end docs past (l ∷ ls) fs (_, inl (_, p, _)) = absurd (true≢false (sym p ∙ and_false (is_some (last_term past)) true))
+after_end docs past (l ∷ ls) fs (_, inl (_, p, _)) = absurd (true≢false (sym p ∙ and-true (is_some (last_term past) && false) ∙ and-false (is_some (last_term past))))
 after_end docs past (l ∷ ls) fs (_, inr (later, is, a, w)) =
     let e = end_form docs past (form_of l.content) a in
     let rest = after_sum docs (End ∷ past) ls later (subst (λ f. Walk docs (f ∷ End ∷ past) ls later) e w) in

@@ -10,6 +10,7 @@ use Rattle.simpletext_postings.specs.Postings.{form_of, indented_form, doc_of, f
 use Rattle.simpletext_postings.specs.Rows.{fits_line, is_small}
 use Rattle.simpletext_postings.specs.Forms.{Form}
 use Rattle.simpletext_postings.specs.Forms.{Field, Term, Doc, Freq, Pos, End, Checksum}
+use Rattle.simpletext_postings.proofs.Cutting.{cut_none}
 use Rattle.simpletext_postings.proofs.Digits.{number_decimal, all_digits, ten_digits, escape_digits}
 
 -- ---- one line
@@ -27,10 +28,6 @@ cut_plain x y t n s = simp (n, s)
 cut_escaped : (y : ℕ) (t : List ℕ) → cut (backslash ∷ y ∷ t) ≡ in_front y 2 (cut t)
 unfolding cut
 cut_escaped y t = refl
-
-cut_none : cut [] ≡ nothing
-unfolding cut
-cut_none = refl
 
 -- bytes that are some
 record Begins (t : List ℕ) : Type 0 where

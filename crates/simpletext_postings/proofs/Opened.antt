@@ -9,6 +9,7 @@ use Rattle.std.proofs.lemmas.Bool.{and_parts, or_parts, and_from, or_left, or_fr
 use Rattle.std.proofs.lemmas.Bool.Decides.{nat_tests}
 use Rattle.std.proofs.lemmas.List.{map-append, length-append}
 use Rattle.std.proofs.lemmas.List.Folds.{list_all-append, list_any-append}
+use Rattle.std.proofs.Math.Bool.{or-false, and-true, and-false}
 use Rattle.simpletext_postings.specs.Postings.{fields, last_field, last_term, at_end, at_field_or_term, ends_entry, may_begin_field, is_term_above, is_allowed, is_passed}
 use Rattle.simpletext_postings.specs.Places.{NumberedTerm, numbered, named, is_place, is_before, rise, differ}
 use Rattle.simpletext_postings.specs.Shapes.{form_with}
@@ -162,14 +163,10 @@ lower_before p q e h =
     let t : (p.field == q.field) ≡ true = grind (arith, nat_tests) in
     or_right (nat_lt p.field q.field) ((p.field == q.field) && is_lt (slice_cmp nat_cmp p.term q.term)) (and_from _ _ t h)
 
-or_second : (a b : Bool) → a ≡ false → (a || b) ≡ true → b ≡ true
-or_second true b e h = absurd (true≢false e)
-or_second false b e h = h
-
 before_trans_by : (p q r : NumberedTerm) (b : Bool) → nat_lt p.field q.field ≡ b → is_before p q ≡ true → q.field ≡ r.field → Below q.term r.term → is_before p r ≡ true
 before_trans_by p q r true e h same below = let lt : p.field < r.field = grind (arith, nat_tests) in earlier_before p r lt
 before_trans_by p q r false e h same below =
-    let parts = and_parts (p.field == q.field) (is_lt (slice_cmp nat_cmp p.term q.term)) (or_second _ _ e h) in
+    let parts = and_parts (p.field == q.field) (is_lt (slice_cmp nat_cmp p.term q.term)) (rw e at h) in
     let t = parts.0 in
     let own : p.field ≡ r.field = grind (arith, nat_tests) in
     lower_before p r own (below_trans p.term q.term r.term parts.1 below)
@@ -495,31 +492,18 @@ takes_by docs past shape.Unknown content at behind old s answer of moves =
 
 -- ---- a line of no form
 
-and_false : (b c : Bool) → (b && false && c) ≡ false
-and_false true c = refl
-and_false false c = refl
-
-and_false_last : (b c : Bool) → (b && c && false) ≡ false
-and_false_last true true = refl
-and_false_last true false = refl
-and_false_last false c = refl
-
-and_true : (b : Bool) → (b && true && true) ≡ b
-and_true true = refl
-and_true false = refl
-
 is_some_place : (term : Option NumberedTerm) → is_some term ≡ is_some (place_term term)
 is_some_place None = refl
 is_some_place (Some p) = refl
 
 passes_within : (past : List Form) (term : Option NumberedTerm) → place_term term ≡ last_term past → (is_some (last_term past) && true && true) ≡ is_passed past Indented
     → is_some term ≡ is_passed past Indented
-passes_within past term same h = is_some_place term ∙ ap is_some same ∙ sym (and_true _) ∙ h
+passes_within past term same h = is_some_place term ∙ ap is_some same ∙ sym (and-true (is_some (last_term past) && true) ∙ and-true (is_some (last_term past))) ∙ h
 
 passes : (past : List Form) (o : Opening) → IsOpeningOf past o → is_some (term_read o) ≡ is_passed past Indented
 passes [] o of = let e = of.outside refl in rw e refl
-passes (End ∷ past) o of = let e = of.outside refl in rw e (sym (and_false (is_some (last_term past)) true))
-passes (Checksum ∷ past) o of = let e = of.outside refl in rw e (sym (and_false_last (is_some (last_term past)) true))
+passes (End ∷ past) o of = let e = of.outside refl in rw e (sym (and-true (is_some (last_term past) && false) ∙ and-false (is_some (last_term past))))
+passes (Checksum ∷ past) o of = let e = of.outside refl in rw e (sym (and-false (is_some (last_term past) && true)))
 passes (f ∷ past) o of = passes_within (f ∷ past) (term_read o) (of.within refl).term refl
 
 some_read : (names : List ℕ) (term : Option Place) → is_some (option_map (numbered names) term) ≡ is_some term
@@ -531,15 +515,11 @@ takes_passed docs past at behind o of =
     let is = sym (some_read o.names.items o.term) ∙ passes past o of in
     let own : past_after past Indented ≡ (if is_passed past Indented then past else Indented ∷ past) = refl in
     record {
-      same = is ∙ sym (or_nothing _);
+      same = is ∙ sym (or-false _);
       after = λ e. let passed = sym is ∙ e in rw passed of;
       kept = λ e le kept. let passed = sym is ∙ e in rw passed (kept_on past past at behind o o (λ w. w) refl refl refl le kept);
       terms = λ _ _ end. refl;
     }
-  where
-    or_nothing : (b : Bool) → (b || false) ≡ b
-    or_nothing true = refl
-    or_nothing false = refl
 
 pub takes_other : (docs : ℕ) (past : List Form) (own : Shape) (content : List ℕ) (at behind : ℕ) (old : Opening) (s : TableState) (answer : Bool) → IsOpeningOf past old
     → (own ≡ shape.Field → ⊥) → (own ≡ shape.Term → ⊥) → (own ≡ shape.End → ⊥) → (own ≡ shape.Indented → ⊥)

@@ -93,13 +93,9 @@ over_not (Some End) h = (refl, refl, refl, refl, refl)
 over_not (Some Checksum) h = (refl, refl, refl, refl, refl)
 over_not (Some Unknown) h = absurd (cc)
 
-or_right : (a b : Bool) → a ≡ false → (a || b) ≡ true → b ≡ true
-or_right true b n h = absurd (cc)
-or_right false b n h = h
-
 -- a whole document stands before its END line and before the next document
 whole_before : (docs : ℕ) (past : List Form) (f : Form) → (is_start (last past) || is_between (last past)) ≡ true → is_inside (last past) ≡ true → is_between (last past) ≡ true
-whole_before docs past f h inside = or_right (is_start (last past)) (is_between (last past)) (not_at_end (last past) inside).2 h
+whole_before docs past f h inside = rw (not_at_end (last past) inside).2 at h
 
 module _ (docs : ℕ) where
   abbrev next : List Form → ℕ → List Taken → Taken → Result (Lines Form) ℕ
@@ -199,10 +195,10 @@ module _ (docs : ℕ) where
           → IsOwnPart s own at ((at, f, l.content) ∷ later)
       own_form (Doc n) is may ih =
           let p = (and_parts (is_start (last past) || is_between (last past)) (n == doc_count past) (and_parts _ _ may).0).0 in
-          nothing_left s own at (Doc n) l.content later (ap is_between same ∙ or_right _ _ (not_at_end (last past) in_doc).2 p) refl (λ name kind. refl)
+          nothing_left s own at (Doc n) l.content later (ap is_between same ∙ (rw (not_at_end (last past) in_doc).2 at p)) refl (λ name kind. refl)
       own_form End is may ih =
           let p = (and_parts (is_start (last past) || is_between (last past)) (doc_count past == docs) may).0 in
-          nothing_left s own at End l.content later (ap is_between same ∙ or_right _ _ (not_at_end (last past) in_doc).2 p) refl (λ name kind. refl)
+          nothing_left s own at End l.content later (ap is_between same ∙ (rw (not_at_end (last past) in_doc).2 at p)) refl (λ name kind. refl)
       own_form Field is may ih =
           let part = ih refl in
           line_in_front l ls tail s own at Field later first short is (ap is_between same ∙ may) part refl

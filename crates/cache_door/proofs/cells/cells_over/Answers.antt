@@ -1,8 +1,9 @@
+use Rattle.std.proofs.lemmas.List.Elements.{All-push}
 use Rattle.std.proofs.Common.{◌∷◌, ◌++◌, [], List, map, sym, subst, ◌∙◌, ap}
 use Rattle.std.specs.List.{All}
 use Rattle.blob_parts.specs.Content.{content}
 use Rattle.region_cell.specs.Cells.{CellView, IsGood}
-use Rattle.cache_door.proofs.Made.{cell_over, over_push, all_push}
+use Rattle.cache_door.proofs.Made.{cell_over, over_push}
 use Rattle.cache_door.proofs.cells.cells_over.Goals as goal
 
 pub loop-frame-preserved : goal.loop-frame-preserved
@@ -17,5 +18,5 @@ loop-frame-preserved g c =
           ∙ ap (λ (l : List CellView). l ++ c.new-cell.result ∷ []) c.loop-frame.invariant.cells
           ∙ ap (λ (x : CellView). map over c.loop-frame.yielded ++ x ∷ []) c.new-cell.ensures
           ∙ sym (over_push g.F.Frame.view c.args.config.now.range c.loop-frame.yielded c.in-Some.frame);
-      good = subst P (sym e) (all_push good c.loop-frame.cells.items c.new-cell.result c.loop-frame.invariant.good c.lesson.ensures.good);
+      good = subst P (sym e) (All-push good c.loop-frame.cells.items c.new-cell.result c.loop-frame.invariant.good c.lesson.ensures.good);
     }
