@@ -175,3 +175,48 @@ fn reads_no_lines(rt: HostRuntime) -> Result<(), Fail> {
     shows(&rt, reader.next_line(&mut files), Ok(None));
     Ok(())
 }
+
+/// Passes the line that the reader lends, which is expected.
+fn lends(rt: &impl Abort, reader: &mut LineReader, expected: Option<&[u8]>) {
+    let Some(content) = reader.near() else {
+        assert!(rt; expected.is_none());
+        return;
+    };
+    assert!(rt; expected == Some(content));
+    let count = content.len() + 1;
+    reader.pass(count);
+}
+
+/// A line is lent where it ends among the next 32 bytes read ahead and has no backslash.
+#[test]
+fn lends_near_lines(rt: HostRuntime) -> Result<(), Fail> {
+    let alloc = rt.alloc();
+    let mut text = b"a\nbc\n\n\\d\n".to_vec(alloc)?;
+    text.extend_from_slice(b"0123456789012345678901234567890\n")?;
+    text.extend_from_slice(b"01234567890123456789012345678901\nz\n")?;
+    let mut files = MemBytes::new(alloc);
+    files.add(text)?;
+    let mut reader = LineReader::new(alloc, Input::open(&files, 0))?;
+    lends(&rt, &mut reader, None);
+    shows(&rt, reader.next_line(&mut files), Ok(Some((0, b"a"))));
+    lends(&rt, &mut reader, Some(b"bc"));
+    assert_eq!(rt; reader.pos(), 5);
+    lends(&rt, &mut reader, Some(b""));
+    assert_eq!(rt; reader.pos(), 6);
+    lends(&rt, &mut reader, None);
+    shows(&rt, reader.next_line(&mut files), Ok(Some((6, b"d"))));
+    lends(&rt, &mut reader, Some(b"0123456789012345678901234567890"));
+    assert_eq!(rt; reader.pos(), 41);
+    lends(&rt, &mut reader, None);
+    let long = reader.next_line(&mut files);
+    shows(
+        &rt,
+        long,
+        Ok(Some((41, b"01234567890123456789012345678901"))),
+    );
+    lends(&rt, &mut reader, None);
+    shows(&rt, reader.next_line(&mut files), Ok(Some((74, b"z"))));
+    lends(&rt, &mut reader, None);
+    shows(&rt, reader.next_line(&mut files), Ok(None));
+    Ok(())
+}

@@ -8,15 +8,15 @@ use Rattle.std.proofs.lemmas.Bool.{true≢false, cases_eq}
 use Rattle.memchr.specs.Find.{Nowhere, Passes, places_from}
 use Rattle.directory_input.specs.Reads.{Read, slice_of}
 use Rattle.directory_input.specs.Windows.{Window, FitsFile, moved_to, window_bytes}
-use Rattle.directory_input.proofs.Slices.{drop_drop}
+use Rattle.directory_input.proofs.Slices.{drop_drop, zero_add}
 use Rattle.directory_input.specs.Files.{FilesView, FilesLater}
 use Rattle.text_lines.specs.declared.reader.LineError.{LineError}
 use Rattle.text_lines.specs.declared.reader.LineError.TheVariants.{Unended, TooLong, Bytes}
 use Rattle.text_lines.specs.Escapes.{newline}
 use Rattle.text_lines.specs.Lines.{cut}
-use Rattle.text_lines.specs.Walks.{taken, then_lines, front, Lands}
+use Rattle.text_lines.specs.Walks.{taken, then_lines, front, IsNear}
 use Rattle.text_lines.proofs.Cuts.{IsPlain, begins, to_newline}
-use Rattle.text_lines.specs.Readers.{Reading, FitsBytes, ArePieces, ReadsPieces, IsOfBytes, Names, Refuses, bytes_ahead, skip_of}
+use Rattle.text_lines.specs.Readers.{Reading, FitsBytes, ArePieces, ReadsPieces, IsOfBytes, Names, Refuses, LendsLine, bytes_ahead, skip_of}
 
 drop_append : (n : ℕ) (xs ys : List ℕ) → n ≤ length xs → drop n (xs ++ ys) ≡ drop n xs ++ ys
 drop_append zero xs ys le = refl
@@ -151,17 +151,32 @@ near_newline c k m b u i inside plain is =
     ∙ to_newline c k near (far ++ u) i inside plain is
     ∙ ap (λ x. then_lines (taken (c ++ take i near) (k + (i + 1))) (cut x)) left
 
--- a line that is taken at once from the front of what was read ahead
-pub near_line : (at used : ℕ) (ahead text content : List ℕ) → used ≤ length ahead → ahead ++ drop (at + length ahead) text ≡ drop at text
-    → ((u : List ℕ) → Lands true false false [] content used (ahead ++ u) (drop used ahead ++ u))
-    → cut (drop at text) ≡ then_lines (taken content used) (cut (drop (at + used) text))
-near_line at used ahead text content le is lands =
-    let far = drop (at + length ahead) text in
-    let e : 0 + used ≡ used = omega arith in
+-- the content before a newline among the first 32 bytes, with no newline and no backslash before it
+pub is_near : (b : List ℕ) (i : ℕ) → i < length (take 32 b) → IsPlain (take 32 b) i → get_or (take 32 b) i 0 ≡ newline → IsNear (take i (take 32 b)) b
+is_near b i inside plain is =
+    let len : length (take i (take 32 b)) ≡ i = omega (arith, inside, length-take i (take 32 b)) in
+    record {
+      few = omega (arith, len, inside, length-take 32 b);
+      inside = omega (arith, len, inside, length-take 32 b);
+      lands = λ u k. rw len (near_newline [] k 32 b u i inside plain is);
+    }
+
+-- a line whose content is lent from the front of what was read ahead
+pub lends_line : (files : FilesView) (r : Reading) (content : List ℕ) → FitsBytes files r → IsNear content r.ahead → LendsLine files r content
+lends_line files r content fits near = λ t.
+    let at = r.input.position in
+    let used = length content + 1 in
+    let text = window_bytes files.bytes r.input in
+    let is = fits.ahead t in
+    let le : used ≤ length r.ahead = omega (arith, near.inside) in
+    let size : at + used - at ≡ used = omega arith in
+    let few : used ≤ 16777216 = omega (arith, near.few) in
+    let line : cut (drop at text) ≡ then_lines (taken content used) (cut (drop (at + used) text)) =
     begins (drop at text)
     ∙ ap (λ x. front [] 0 (cut x)) (sym is)
-    ∙ lands far 0
-    ∙ ap₂ (λ n x. then_lines (taken content n) (cut x)) e (rest_after at used ahead text le is)
+    ∙ near.lands (drop (at + length r.ahead) text) 0
+    ∙ ap₂ (λ n x. then_lines (taken content n) (cut x)) (zero_add used) (rest_after at used r.ahead text le is) in
+    rw size (line, few)
 
 nowhere_before : (test : ℕ → Bool) (hay : List ℕ) (i x : ℕ) → test (slice_index hay i) ≡ false → Nowhere (Passes test hay) (i + 1) x → Nowhere (Passes test hay) i x
 nowhere_before test hay i x e later k low below passes = by_cases (cases_eq k i)

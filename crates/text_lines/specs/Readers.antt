@@ -112,6 +112,11 @@ Steps (Err e) slash before now bytes left = Unit {0}
 abbrev pub line_of : ℕ → List ℕ → Line
 line_of at content = record { at = at; content = content }
 
+-- what is lent is the content of the line that begins where the reader stands, and a newline stands behind it
+abbrev pub LendsLine : FilesView → Reading → List ℕ → Type 0
+LendsLine files r content =
+    ReadsLine files (Ok (Some (line_of r.input.position content))) r.input (moved_to (r.input.position + (length content + 1)) r.input)
+
 -- so many bytes of an input of these files, from its position on, where they are told
 abbrev pub bytes_ahead : FilesView → Window → ℕ → List ℕ
 bytes_ahead files w size = slice_of w.position size (window_bytes files.bytes w)

@@ -1,5 +1,5 @@
 -- The lines of a text from a place inside a line on.
-use Rattle.std.specs.Prelude.{ℕ, ◌≡◌, ◌<◌, ◌≤◌, ◌+◌, Bool, true, false, List, [], ◌∷◌, ◌++◌, length, drop, Option, Some, None}
+use Rattle.std.specs.Prelude.{ℕ, ◌≡◌, ◌<◌, ◌+◌, Bool, true, false, List, [], ◌∷◌, ◌++◌, length, drop}
 use Rattle.text_lines.specs.Escapes.{backslash}
 use Rattle.text_lines.specs.Lines.{Taken, Cut, cut}
 
@@ -39,8 +39,8 @@ Lands true slash_before slash_now before now used bytes left =
 Lands false slash_before slash_now before now used bytes left =
     (k : ℕ) → front before k (cut_after slash_before bytes) ≡ front now (k + used) (cut_after slash_now left)
 
--- a whole line of so many bytes, at most 32, is taken from the front of these bytes, if one is
-abbrev pub TakesNear : Option ℕ → (before now bytes : List ℕ) → Type 0
-TakesNear None before now bytes = now ≡ before
-TakesNear (Some n) before now bytes =
-    (0 < n) × (n ≤ 32) × (n ≤ length bytes) × ((u : List ℕ) → Lands true false false before now n (bytes ++ u) (drop n bytes ++ u))
+-- the content of the first line of these bytes, with fewer than 32, and the newline behind it stands among them
+pub record IsNear (content bytes : List ℕ) : Type 0 where
+  pub few : length content < 32
+  pub inside : length content < length bytes
+  pub lands : (u : List ℕ) → Lands true false false [] content (length content + 1) (bytes ++ u) (drop (length content + 1) bytes ++ u)

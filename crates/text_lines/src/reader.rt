@@ -1,13 +1,14 @@
 // A reader of the lines of an input, which reads ahead in pieces.
-ghost use Rattle.std.specs.Prelude.{◌≡◌, ◌<◌, ◌≤◌, ◌+◌, ◌-◌, [], IsTrue, IfOk, OnOk, OnErr, IfErr, min, length, take};
+ghost use Rattle.std.specs.Prelude.{◌≡◌, ◌<◌, ◌≤◌, ◌+◌, ◌-◌, ◌^◌, [], IsTrue, IfOk, IfSome, OnOk, OnErr, IfErr, min};
+ghost use Rattle.std.specs.Prelude.{length, take};
 ghost use Rattle.directory_input.specs.Files.{FilesView};
 ghost use Rattle.directory_input.specs.Windows.{FitsFile, moved_to};
 ghost use Rattle.directory_input.specs.Causes.{HasBytesCause, refusal};
 ghost use Rattle.text_lines.specs.Readers.{FitsBytes, ReadsPieces, ReadsLine, Places, Moved, Steps, Came, HasMore};
 ghost use Rattle.text_lines.specs.Readers.{IsOfBytes, rest, line_answer, line_of, line_refusal, bytes_ahead, piece_of};
-ghost use Rattle.text_lines.specs.Readers.{skip_of};
+ghost use Rattle.text_lines.specs.Readers.{LendsLine, skip_of};
 
-use crate::steps::{Step, take_near, take_step};
+use crate::steps::{Step, near_content, take_step};
 use byte_text::Text;
 use directory_input::{BytesError, FileBytes, Input, InputError};
 use std::alloc::{AllocError, Global};
@@ -135,15 +136,29 @@ impl LineReader {
 
     /// The bytes that were read ahead.
     fn unread(&self) -> &[u8]
-        ensures { result.now ≡ self.now.ahead }
+        ensures bytes { result.now ≡ self.now.ahead }
+        ensures place { self.now.input.position + length self.now.ahead < 2 ^ 64 }
     {
         &self.buffer[self.from..self.till]
     }
 
-    /// Leaves so many of the bytes that were read ahead behind.
-    fn skip(&mut self, count: usize)
+    /// The content of the line that begins here, lent from what was read ahead, where it ends within the first 32 bytes
+    /// of that and has no backslash; None for any other line. `next_in` gives every line.
+    pub fn near(&self) -> Option<&[u8]>
+        ensures inside { IfSome result (λ c. length c.now < length self.now.ahead) }
+        ensures place { IfSome result (λ c. self.now.input.position + (length c.now + 1) < 2 ^ 64) }
+        ensures line { (files : FilesView) → FitsBytes files self.now
+            → IfSome result (λ c. LendsLine files self.now c.now) }
+    {
+        near_content(self.unread())
+    }
+
+    /// Leaves so many of the bytes that were read ahead behind: after a line that `near` lent, the length of its content
+    /// and 1 for the newline.
+    pub fn pass(&mut self, count: usize)
         requires { count ≤ length self.old.ahead }
-        ensures { self.new ≡ skip_of self.old count }
+        ensures left { self.new ≡ skip_of self.old count }
+        ensures fits { (files : FilesView) → FitsBytes files self.old → FitsBytes files self.new }
     {
         self.from += count;
         self.place += count as u64;
@@ -225,7 +240,7 @@ impl LineReader {
             Err(e) => return Err(LineError::Bytes(e)),
         }
         let step = take_step(self.unread(), slash, content)?;
-        self.skip(step.used);
+        self.pass(step.used);
         Ok(Some(step))
     }
 
@@ -284,8 +299,10 @@ impl LineReader {
         ensures pieces { ReadsPieces B.goes_by self.old.input bytes.old bytes.new }
         ensures cause { HasBytesCause (B.view bytes.old) (B.view bytes.new) (line_refusal result) }
     {
-        if let Some(used) = take_near(self.unread(), content)? {
-            self.skip(used);
+        if let Some(near) = self.near() {
+            content.extend(near)?;
+            let count = near.len() + 1;
+            self.pass(count);
             return Ok(true);
         }
         self.walk_line(bytes, content)

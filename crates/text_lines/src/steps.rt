@@ -1,6 +1,6 @@
 // One step through a line: up to the next newline or backslash, or the byte that a backslash takes.
-ghost use Rattle.std.specs.Prelude.{◌≡◌, ◌<◌, ◌≤◌, ◌++◌, ℕ, List, IfOk, length, drop};
-ghost use Rattle.text_lines.specs.Walks.{Lands, TakesNear};
+ghost use Rattle.std.specs.Prelude.{◌<◌, ◌≤◌, ◌++◌, ℕ, List, IfOk, IfSome, length, drop};
+ghost use Rattle.text_lines.specs.Walks.{Lands, IsNear};
 
 use byte_text::Text;
 use memchr::{memchr2, memchr2_iter};
@@ -54,25 +54,21 @@ pub fn take_step(bytes: &[u8], slash: bool, content: &mut Text) -> Result<Step, 
     })
 }
 
-/// How many bytes `take_near` looks at.
+/// How many bytes `near_content` looks at.
 const NEAR: usize = 32;
 
-/// Puts the content of the first line behind `content`, where it ends within the first 32 bytes and has no backslash,
-/// and says how many bytes it used; None, with nothing done, for any other line. Most lines are so short, and this way
-/// costs less for each than `take_step` does.
-pub fn take_near(bytes: &[u8], content: &mut Text) -> Result<Option<usize>, AllocError>
-    ensures { IfOk result (λ o. TakesNear o content.old content.new bytes.now) }
+/// The content of the first line, where it ends within the first 32 bytes and has no backslash; None for any other
+/// line. Most lines are so short, and this way costs less for each than `take_step` does.
+pub fn near_content(bytes: &[u8]) -> Option<&[u8]>
+    ensures { IfSome result (λ c. IsNear c.now bytes.now) }
 {
     if bytes.len() < NEAR {
-        return Ok(None);
+        return None;
     }
     let near = &bytes[..NEAR];
     let mut marks = memchr2_iter(b'\n', b'\\', near);
     match marks.next() {
-        Some(run) if near[run] == b'\n' => {
-            content.extend(&near[..run])?;
-            Ok(Some(run + 1))
-        }
-        _ => Ok(None),
+        Some(run) if near[run] == b'\n' => Some(&near[..run]),
+        _ => None,
     }
 }
