@@ -69,9 +69,20 @@ fn read_all<B: FileBytes>(
         at: 0,
         content: Text::new(alloc),
     };
-    while reader.next_in(bytes, &mut line)? {
-        if !collecting.take(shape_of(line.content.as_bytes()))? {
-            return Err(TextError::Bad { at: base + line.at });
+    loop {
+        if let Some(content) = reader.near() {
+            let at = reader.pos();
+            let size = content.len() + 1;
+            if !collecting.take(shape_of(content))? {
+                return Err(TextError::Bad { at: base + at });
+            }
+            reader.pass(size);
+        } else if reader.next_in(bytes, &mut line)? {
+            if !collecting.take(shape_of(line.content.as_bytes()))? {
+                return Err(TextError::Bad { at: base + line.at });
+            }
+        } else {
+            break;
         }
     }
     Ok(())

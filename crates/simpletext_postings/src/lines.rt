@@ -42,9 +42,20 @@ pub fn read_lines<B: FileBytes>(
         at: 0,
         content: Text::new(alloc),
     };
-    while reader.next_in(bytes, &mut line)? {
-        if !opening.take(line.at, reader.pos(), line.content.as_bytes())? {
-            return Err(TextError::Bad { at: line.at });
+    loop {
+        if let Some(content) = reader.near() {
+            let at = reader.pos();
+            let size = content.len() + 1;
+            if !opening.take(at, at + size as u64, content)? {
+                return Err(TextError::Bad { at });
+            }
+            reader.pass(size);
+        } else if reader.next_in(bytes, &mut line)? {
+            if !opening.take(line.at, reader.pos(), line.content.as_bytes())? {
+                return Err(TextError::Bad { at: line.at });
+            }
+        } else {
+            break;
         }
     }
     if !opening.is_done() {

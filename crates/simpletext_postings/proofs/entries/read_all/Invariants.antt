@@ -7,8 +7,8 @@ use Rattle.text_lines.specs.Readers.{FitsBytes, ReadsPieces, rest}
 use Rattle.simpletext_postings.specs.Entries.{IsEntryText, Rises, collected, line_forms}
 use Rattle.simpletext_postings.proofs.entries.read_all.Given as goal
 
-abbrev pub invariant-loop-line : goal.invariant-loop-line
-invariant-loop-line g l =
+abbrev pub invariant-loop-content : goal.invariant-loop-content
+invariant-loop-content g l =
     record {
       pieces : ReadsPieces g.B.FileBytes.goes_by l.fn.reader.input l.fn.bytes l.bytes;
       cause : HasBytesCause (g.B.FileBytes.view l.fn.bytes) (g.B.FileBytes.view l.bytes) None;
@@ -23,5 +23,5 @@ invariant-loop-line g l =
           → IsEntryText l.collecting.docs l.collecting.least (cut (rest (g.B.FileBytes.view l.fn.bytes).bytes l.reader.input)));
     }
 
-abbrev pub decreases-loop-line : goal.decreases-loop-line
-decreases-loop-line g l = l.reader.input.size - l.reader.input.position
+abbrev pub decreases-loop-content : goal.decreases-loop-content
+decreases-loop-content g l = l.reader.input.size - l.reader.input.position

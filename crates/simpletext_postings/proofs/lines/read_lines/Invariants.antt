@@ -9,8 +9,8 @@ use Rattle.simpletext_postings.specs.Forms.{Form}
 use Rattle.simpletext_postings.proofs.SoFar.{IsSoFar}
 use Rattle.simpletext_postings.proofs.lines.read_lines.Given as goal
 
-abbrev pub invariant-loop-line : goal.invariant-loop-line
-invariant-loop-line g l =
+abbrev pub invariant-loop-content : goal.invariant-loop-content
+invariant-loop-content g l =
     record {
       pieces : ReadsPieces g.B.FileBytes.goes_by l.fn.reader.input l.fn.bytes l.bytes;
       cause : HasBytesCause (g.B.FileBytes.view l.fn.bytes) (g.B.FileBytes.view l.bytes) None;
@@ -22,5 +22,5 @@ invariant-loop-line g l =
           × (IsTrue (g.B.FileBytes.view l.fn.bytes).tells → IsSoFar l.fn.opening.docs (window_bytes (g.B.FileBytes.view l.fn.bytes).bytes l.fn.reader.input) past l.reader.input.position (cut (rest (g.B.FileBytes.view l.fn.bytes).bytes l.reader.input)) l.opening);
     }
 
-abbrev pub decreases-loop-line : goal.decreases-loop-line
-decreases-loop-line g l = l.reader.input.size - l.reader.input.position
+abbrev pub decreases-loop-content : goal.decreases-loop-content
+decreases-loop-content g l = l.reader.input.size - l.reader.input.position
