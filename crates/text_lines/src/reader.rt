@@ -153,8 +153,8 @@ impl LineReader {
         near_content(self.unread())
     }
 
-    /// Leaves so many of the bytes that were read ahead behind: after a line that `near` lent, the length of its content
-    /// and 1 for the newline.
+    /// Leaves so many of the bytes that were read ahead behind: for a line that `near` lends, those of its content and
+    /// the newline.
     pub fn pass(&mut self, count: usize)
         requires { count ≤ length self.old.ahead }
         ensures left { self.new ≡ skip_of self.old count }
