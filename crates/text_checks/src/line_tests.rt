@@ -1,5 +1,6 @@
 //! Inputs, lines, escapes and numbers.
 ghost use Rattle.std.specs.Prelude.{◌<◌};
+ghost use Rattle.text_lines.specs.Readers.{FitsBytes};
 
 use crate::samples::file_of;
 use directory_input::{BytesError, FileBytes, Input, InputError, MemBytes};
@@ -176,8 +177,12 @@ fn reads_no_lines(rt: HostRuntime) -> Result<(), Fail> {
     Ok(())
 }
 
-/// Passes the line that the reader lends, which is expected.
-fn lends(rt: &impl Abort, reader: &mut LineReader, expected: Option<&[u8]>) {
+/// Passes the line that the reader of these files lends, which is expected.
+fn lends<B: FileBytes>(rt: &impl Abort, files: &B, reader: &mut LineReader, expected: Option<&[u8]>)
+    requires { FitsBytes (B.view files.now) reader.old }
+    ensures { FitsBytes (B.view files.now) reader.new }
+{
+    let _ = files;
     let Some(content) = reader.near() else {
         assert!(rt; expected.is_none());
         return;
@@ -197,26 +202,31 @@ fn lends_near_lines(rt: HostRuntime) -> Result<(), Fail> {
     let mut files = MemBytes::new(alloc);
     files.add(text)?;
     let mut reader = LineReader::new(alloc, Input::open(&files, 0))?;
-    lends(&rt, &mut reader, None);
+    lends(&rt, &files, &mut reader, None);
     shows(&rt, reader.next_line(&mut files), Ok(Some((0, b"a"))));
-    lends(&rt, &mut reader, Some(b"bc"));
+    lends(&rt, &files, &mut reader, Some(b"bc"));
     assert_eq!(rt; reader.pos(), 5);
-    lends(&rt, &mut reader, Some(b""));
+    lends(&rt, &files, &mut reader, Some(b""));
     assert_eq!(rt; reader.pos(), 6);
-    lends(&rt, &mut reader, None);
+    lends(&rt, &files, &mut reader, None);
     shows(&rt, reader.next_line(&mut files), Ok(Some((6, b"d"))));
-    lends(&rt, &mut reader, Some(b"0123456789012345678901234567890"));
+    lends(
+        &rt,
+        &files,
+        &mut reader,
+        Some(b"0123456789012345678901234567890"),
+    );
     assert_eq!(rt; reader.pos(), 41);
-    lends(&rt, &mut reader, None);
+    lends(&rt, &files, &mut reader, None);
     let long = reader.next_line(&mut files);
     shows(
         &rt,
         long,
         Ok(Some((41, b"01234567890123456789012345678901"))),
     );
-    lends(&rt, &mut reader, None);
+    lends(&rt, &files, &mut reader, None);
     shows(&rt, reader.next_line(&mut files), Ok(Some((74, b"z"))));
-    lends(&rt, &mut reader, None);
+    lends(&rt, &files, &mut reader, None);
     shows(&rt, reader.next_line(&mut files), Ok(None));
     Ok(())
 }
